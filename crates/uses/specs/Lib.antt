@@ -1,0 +1,5 @@
+pub mod Relations
+pub mod Checked
+pub mod TwoUses
+pub mod FiveUses
+pub mod Spans

@@ -1,0 +1,4 @@
+pub mod five_uses;
+pub mod spans;
+pub mod table;
+pub mod two_uses;
