@@ -93,9 +93,3 @@ spans = record {
 pub record Exact-codes : Type 0 where
   pub reads : (s : Span) → Proper s → span-of (code-of s) ≡ Some s
   pub writes : (a : ℕ) (s : Span) → span-of a ≡ Some s → Proper s × (code-of s ≡ a)
-
--- three codes and what the table says of them: up 0 to 5 (65541), down 4 to 9 (132105), down 5 to 9 (132361), up 5 to 5 (66821)
-pub record Worked-examples : Type 0 where
-  pub one-field-shared : spans .conflict 65541 132105 ≡ true
-  pub end-to-end : spans .conflict 65541 132361 ≡ false
-  pub no-field : spans .known 66821 ≡ false

@@ -3,7 +3,7 @@ ghost use Prim.Native.Nat.{_<_};
 ghost use mathlib.Core.Bool.{_||_};
 ghost use mathlib.Core.Path.{_≡_};
 ghost use Rattle.uses.specs.declared.spans.Direction.the-variants.{Works};
-ghost use Rattle.uses.specs.Spans.{code-of, span-of, takes, share-a-field, has-all-fields-of, same, travel-one-way, spans-conflict, span-covers, spans, Exact-codes, Worked-examples};
+ghost use Rattle.uses.specs.Spans.{code-of, span-of, takes, share-a-field, has-all-fields-of, same, travel-one-way, spans-conflict, span-covers, spans, Exact-codes};
 use crate::table::UseTable;
 
 // Which way a span is travelled; `Works` is for maintenance, which stands alone.
@@ -138,9 +138,4 @@ pub impl UseTable for Spans as SpansTable {
 // each as the span that it is the code of.
 pub fn codes_are_exact()
     ensures { λ _. ⌜ Exact-codes ⌝ }
-{}
-
-// Theorem: the table's answers to three questions that can be checked by hand.
-pub fn worked_examples()
-    ensures { λ _. ⌜ Worked-examples ⌝ }
 {}

@@ -1,0 +1,13 @@
+pub mod Clashes
+pub mod Anys
+pub mod ClaimLists
+pub mod Graphs
+pub mod Worked
+pub mod Numbers
+pub mod Victims
+pub mod Recalls
+pub mod Keeps
+pub mod Steps
+pub mod Grants
+pub mod LawHolds
+pub mod Exact

@@ -1,0 +1,13 @@
+pub mod Search
+pub mod Graph
+pub mod Claims
+pub mod State
+pub mod Recalling
+pub mod Calls
+pub mod Questions
+pub mod Runs
+pub mod Law
+pub mod Invariant
+pub mod Firsts
+pub mod Examples
+pub mod Theorems
