@@ -11,3 +11,5 @@ pub mod Steps
 pub mod Grants
 pub mod LawHolds
 pub mod Exact
+pub mod Wakes
+pub mod Turns

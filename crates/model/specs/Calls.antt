@@ -172,11 +172,15 @@ step u o s c = with-wakes u s (effect u o s c (refusal (checks u s c)))
 abbrev pub places : ℕ → List ℕ → List ℕ
 places unused ns = take 64 (ns ++ replicate 64 unused)
 
--- the report of a call: first the recalled, then the woken
-abbrev pub report : Outcome → Report
-report x = record {
-  recalled = length (x .recalls);
-  woken = length (x .wakes);
-  dispatches = places 255 (map (λ n. n .dispatch) (x .recalls ++ x .wakes));
-  sections = places 65535 (map (λ n. n .section) (x .recalls ++ x .wakes));
+-- a report of the recalled and the woken
+abbrev pub filled : List Named → List Named → Report
+filled recalls wakes = record {
+  recalled = length recalls;
+  woken = length wakes;
+  dispatches = places 255 (map (λ n. n .dispatch) (recalls ++ wakes));
+  sections = places 65535 (map (λ n. n .section) (recalls ++ wakes));
 }
+
+-- the report of a call
+abbrev pub report : Outcome → Report
+report x = filled (x .recalls) (x .wakes)
