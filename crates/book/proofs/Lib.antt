@@ -1,0 +1,4 @@
+pub mod Places
+pub mod Openings
+pub mod Steady
+pub mod Victims

@@ -1,0 +1,3 @@
+pub mod Said
+pub mod Held
+pub mod Better

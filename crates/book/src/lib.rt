@@ -1,0 +1,7 @@
+// The dispatch book (a lock manager): six calls and three questions, in fixed memory.
+pub mod answers;
+pub mod book;
+mod changes;
+mod looking;
+mod opened;
+mod reports;

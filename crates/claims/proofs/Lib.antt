@@ -1,0 +1,4 @@
+pub mod Searches
+pub mod PlacedFrom
+pub mod Small
+pub mod Marking

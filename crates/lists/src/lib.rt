@@ -1,0 +1,4 @@
+// Lists in fixed memory.
+pub mod fixed_list;
+pub mod methods;
+pub mod test;
