@@ -2,3 +2,4 @@ pub mod Places
 pub mod Openings
 pub mod Steady
 pub mod Victims
+pub mod Turning

@@ -16,6 +16,8 @@ use Rattle.model.specs.Claims.{of, without}
 use Rattle.model.specs.State.{State, numbers, is-open, closed}
 use Rattle.model.specs.declared.state.Claim.{Claim}
 use Rattle.model.specs.declared.state.Opened.{Opened}
+use Rattle.book.specs.Held.{state}
+use Rattle.book.specs.declared.book.Book.{Book}
 use Rattle.model.proofs.Graphs.{at-most}
 use Rattle.model.proofs.Numbers.{all-pass-filter, all-pass-wider, all-pass-push, any-passes, open-closed, open-push, distinct-closed, distinct-push}
 use Rattle.model.proofs.Recalls.{Grounded}
@@ -88,3 +90,7 @@ module _ (s : State) (w : Steady (s .opened) (s .claims)) where
   steady-grounded d h =
       let found = any-passes (λ c. member (c .dispatch) (numbers (s .opened))) (of d) (s .claims) (w .grounded) h in
       grind (arith, tells, found .1, found .2)
+
+-- every book is steady
+pub book-steady : {T O : Type 0} (b : Book T O) → Steady (state b .opened) (state b .claims)
+book-steady b = record { distinct = b .distinct; small = b .small; grounded = b .grounded }

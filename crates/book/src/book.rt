@@ -14,6 +14,7 @@ use model::state::Detection;
 use model::state::Opened;
 
 // A dispatch book (a lock manager) over a use table and a recall order.
+#[derive(Drop)]
 pub struct Book<T, O> {
     pub(crate) table: T,
     pub(crate) order: O,

@@ -4,4 +4,5 @@ pub mod book;
 mod changes;
 mod looking;
 mod opened;
+mod recalls;
 mod reports;

@@ -8,6 +8,7 @@ use lists::fixed_list::FixedList;
 use model::state::Claim;
 
 // At most 512 claims, in order of arrival (a lock table). Each is of a dispatch below 64.
+#[derive(Drop)]
 pub struct ClaimTable {
     pub(crate) list: FixedList<Claim, 512>,
     ghost small: { all-pass (λ c. ltb (c .dispatch) 64) (entries list) ≡ true },

@@ -4,6 +4,7 @@ ghost use lib.ListN.{length};
 ghost use mathlib.Core.Path.{_≡_};
 
 // At most N entries, in order of entering. The places behind the count are free.
+#[derive(Drop)]
 pub struct FixedList<X, const N: usize> {
     pub(crate) items: [X; N],
     pub(crate) count: usize,

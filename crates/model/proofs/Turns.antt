@@ -26,7 +26,7 @@ use Rattle.model.proofs.Recalls.{Grounded, grounded-recall, in-cycles, cycle-o
 
 module _ (u : Relations) (o : Order) (lawful : OrderLaws o) where
   -- the first of those on cycles is open
-  victim-open : (s : State) → Grounded s → (d : ℕ) → first u o s (on-cycles u s) ≡ Some d → is-open s d ≡ true
+  pub victim-open : (s : State) → Grounded s → (d : ℕ) → first u o s (on-cycles u s) ≡ Some d → is-open s d ≡ true
   victim-open s g d e = cycle-open u s g d (in-cycles u s g d .0 (first-some u o lawful s (on-cycles u s) d e .1))
 
   -- one turn is the same, whatever follows gives the same

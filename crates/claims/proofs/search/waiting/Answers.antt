@@ -1,4 +1,3 @@
-use mathlib.Core.Bool.{_&&_}
 use mathlib.Core.Path.{ap, sym}
 use Rattle.std.specs.Options.{mapped}
 use Rattle.model.specs.Claims.{Placed}

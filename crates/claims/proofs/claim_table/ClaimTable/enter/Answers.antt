@@ -1,7 +1,4 @@
-use mathlib.Core.Bool.{true}
-use mathlib.Core.Path.{_≡_}
 use lib.Dec.{ltb}
-use Rattle.std.specs.shelf.Lawful.{all-pass}
 use Rattle.std.proofs.shelf.Tests.{lt-ltb}
 use Rattle.lists.specs.Entries.{entries}
 use Rattle.claims.proofs.Small.{all-pass-push}

@@ -1,5 +1,4 @@
-use mathlib.Core.Bool.{true, not}
-use mathlib.Core.Path.{_≡_}
+use mathlib.Core.Bool.{not}
 use lib.Dec.{ltb}
 use Rattle.lists.specs.Entries.{entries}
 use Rattle.model.specs.Claims.{of}
