@@ -3,3 +3,4 @@ pub mod Openings
 pub mod Steady
 pub mod Victims
 pub mod Turning
+pub mod Waking

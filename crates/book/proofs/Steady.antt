@@ -5,7 +5,7 @@ use mathlib.Core.List.{List, [], _∷_, _++_, map}
 use mathlib.Core.Path.{_≡_, refl, sym, ap, subst, _∙_}
 use native.Mathlib.Omega.{arith}
 use lib.Dec.{eqb, ltb}
-use lib.ListN.{length}
+use lib.ListN.{length, getD}
 use Rattle.std.specs.shelf.Lawful.{all-pass, distinct-test}
 use Rattle.std.specs.shelf.Lists.{All}
 use Rattle.std.proofs.shelf.Lists.{length-map}
@@ -16,6 +16,7 @@ use Rattle.model.specs.Claims.{of, without}
 use Rattle.model.specs.State.{State, numbers, is-open, closed}
 use Rattle.model.specs.declared.state.Claim.{Claim}
 use Rattle.model.specs.declared.state.Opened.{Opened}
+use Rattle.claims.proofs.Small.{all-pass-at}
 use Rattle.book.specs.Held.{state}
 use Rattle.book.specs.declared.book.Book.{Book}
 use Rattle.model.proofs.Graphs.{at-most}
@@ -70,6 +71,10 @@ steady-entered es cs c here w = record {
 pub steady-below : (d : ℕ) (es : List Opened) → all-pass (λ e. ltb (e .dispatch) 64) es ≡ true → member d (numbers es) ≡ true → d < 64
 steady-below d [] h k = absurd (false≢true k)
 steady-below d (e ∷ es) h k = let rest = steady-below d es in grind (arith, tells, rest)
+
+-- each open number is below 64
+pub small-at : (es : List Opened) (i : ℕ) (x : Opened) → i < length es → all-pass (λ e. ltb (e .dispatch) 64) es ≡ true → getD es i x .dispatch < 64
+small-at es i x h small = ltb-true (getD es i x .dispatch) 64 (all-pass-at (λ e. ltb (e .dispatch) 64) es i x small h)
 
 numbers-below : (es : List Opened) → all-pass (λ e. ltb (e .dispatch) 64) es ≡ true → All (λ n. n < 64) (numbers es)
 numbers-below [] h = tt

@@ -63,7 +63,7 @@ abbrev pub none-opened : Opened
 none-opened = record { dispatch = 0; weight = 0 }
 
 -- one more of the open list, filtered
-numbers-more : (m : ℕ → Bool) (es : List Opened) (i : ℕ) (x : Opened) → i < length es → kept-by m (numbers (take (i + 1) es)) ≡ kept-by m (numbers (take i es)) ++ cond (m (getD es i x .dispatch)) (getD es i x .dispatch ∷ []) []
+pub numbers-more : (m : ℕ → Bool) (es : List Opened) (i : ℕ) (x : Opened) → i < length es → kept-by m (numbers (take (i + 1) es)) ≡ kept-by m (numbers (take i es)) ++ cond (m (getD es i x .dispatch)) (getD es i x .dispatch ∷ []) []
 numbers-more m es i x h =
     ap (kept-by m) (map-more (λ e. e .dispatch) es i x h) ∙ (kept-by-append m (numbers (take i es)) (getD es i x .dispatch ∷ []))
 

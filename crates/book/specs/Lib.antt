@@ -1,3 +1,5 @@
 pub mod Said
 pub mod Held
 pub mod Better
+pub mod Before
+pub mod Verdict

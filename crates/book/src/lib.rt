@@ -2,7 +2,9 @@
 pub mod answers;
 pub mod book;
 mod changes;
+mod checks;
 mod looking;
 mod opened;
 mod recalls;
 mod reports;
+mod wakes;

@@ -31,7 +31,9 @@ pub fn name_recalled(report: &mut Report, dispatch: u8, section: u16)
 // Names one more woken dispatch.
 pub fn name_woken(report: &mut Report, dispatch: u8, section: u16)
     requires { ⌜ now report .recalled + now report .woken < 64 ⌝ }
-    ensures { λ _. ⌜ ((recalls wakes : List Named) → now (report .entry) ≡ filled recalls wakes → now (report .exit) ≡ filled recalls (wakes ++ record { dispatch = dispatch; section = section } ∷ [])) ⌝ }
+    ensures recalled { λ _. ⌜ now (report .exit) .recalled ≡ now (report .entry) .recalled ⌝ }
+    ensures woken { λ _. ⌜ now (report .exit) .woken ≡ now (report .entry) .woken + 1 ⌝ }
+    ensures named { λ _. ⌜ ((recalls wakes : List Named) → now (report .entry) ≡ filled recalls wakes → now (report .exit) ≡ filled recalls (wakes ++ record { dispatch = dispatch; section = section } ∷ [])) ⌝ }
 {
     let place = report.recalled as usize + report.woken as usize;
     report.dispatches[place] = dispatch;
