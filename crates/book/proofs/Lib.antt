@@ -4,3 +4,4 @@ pub mod Steady
 pub mod Victims
 pub mod Turning
 pub mod Waking
+pub mod Carrying

@@ -8,7 +8,7 @@ use lib.Dec.{eqb, ltb}
 use lib.ListN.{length, getD}
 use Rattle.std.specs.shelf.Lawful.{all-pass, distinct-test}
 use Rattle.std.specs.shelf.Lists.{All}
-use Rattle.std.proofs.shelf.Lists.{length-map}
+use Rattle.std.proofs.shelf.Lists.{length-map, length-push}
 use Rattle.std.proofs.shelf.Tests.{and-parts, ltb-true, false≢true}
 use Rattle.std.proofs.shelf.Ways.{tells}
 use Rattle.model.specs.Search.{any, member}
@@ -81,6 +81,13 @@ numbers-below [] h = tt
 numbers-below (e ∷ es) h =
     let parts = and-parts (ltb (e .dispatch) 64) (all-pass (λ e. ltb (e .dispatch) 64) es) h in
     (ltb-true (e .dispatch) 64 (parts .0), numbers-below es (parts .1))
+
+-- where somebody who is not open can be opened, there is room
+pub steady-room : (es : List Opened) (cs : List Claim) (e : Opened) → e .dispatch < 64 → member (e .dispatch) (numbers es) ≡ false → Steady es cs → length es < 64
+steady-room es cs e low out w =
+    let v = steady-opened es cs e low out w in
+    let few = at-most 64 (numbers (es ++ e ∷ [])) (v .distinct) (numbers-below (es ++ e ∷ []) (v .small)) in
+    omega (arith, few, length-map (es ++ e ∷ []) (λ x. x .dispatch), length-push es e)
 
 module _ (s : State) (w : Steady (s .opened) (s .claims)) where
   -- at most 64 are open

@@ -15,7 +15,9 @@ use Rattle.model.specs.State.{State, recall}
 use Rattle.model.specs.Recalling.{Order, Named, Recalled, named, nobody, first, on-cycles, recalling-at-most, recalling}
 use Rattle.model.specs.Calls.{filled}
 use Rattle.model.specs.declared.report.Report.{Report}
-use Rattle.model.proofs.Recalls.{Grounded}
+use Rattle.model.proofs.Recalls.{Grounded, recalls}
+use Rattle.model.proofs.Exact.{recalls-shorten}
+use Rattle.book.proofs.Steady.{Steady, steady-few, steady-grounded}
 use Rattle.model.proofs.Turns.{recalling-turns, turn-none, turn-some, turn-last}
 
 -- after some turns the named are done, and what is left to do gives the rest
@@ -92,3 +94,11 @@ module _ (u : Relations) (o : Order) where
   came-late lawful s₀ s turn r g few high t =
       let fuel : 64 - turn ≡ 0 = omega arith in
       came lawful s₀ s turn r g few t (ap (λ k. recalling-at-most k u o s) fuel ∙ turn-last u o s)
+
+-- after recalling there is room for all who are still open
+pub recalled-room : (u : Relations) (o : Order) → OrderLaws o → (s t : State) (r : Report) → Steady (s .opened) (s .claims) → t ≡ recalling u o s .state → r ≡ filled (recalling u o s .recalls) [] → r .recalled + length (t .opened) ≤ 64
+recalled-room u o lawful s t r w same is =
+    let shorter = recalls-shorten u o (recalls u o lawful s (steady-grounded s w)) (steady-grounded s w) in
+    let count = ap (λ (x : Report). x .recalled) is in
+    let long = ap (λ (x : State). length (x .opened)) same in
+    omega (arith, shorter, count, long, steady-few s w)

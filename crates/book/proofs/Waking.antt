@@ -15,7 +15,8 @@ use Rattle.uses.specs.Relations.{Relations}
 use Rattle.model.specs.Claims.{dispatch-waits, waiting-section}
 use Rattle.model.specs.State.{State, numbers}
 use Rattle.model.specs.Recalling.{Named, named}
-use Rattle.model.specs.Calls.{filled}
+use Rattle.model.specs.Calls.{filled, woken}
+use Rattle.book.specs.Before.{Sections-of}
 use Rattle.model.specs.declared.report.Report.{Report}
 use Rattle.model.specs.declared.state.Opened.{Opened}
 use Rattle.model.proofs.ClaimLists.{waiting-section-some}
@@ -67,3 +68,9 @@ woken-more f q es i x h =
     ∙ (map-append f (kept-by q (numbers (take i es))) (cond (q d) (d ∷ []) [])
     ∙ ap (λ ns. map f (kept-by q (numbers (take i es))) ++ ns)
     (cond-both (q d) (d ∷ []) [] (λ ds. map f ds ≡ cond (q d) (f d ∷ []) []) (λ t. sym (cond-true (q d) (f d ∷ []) [] t)) (λ t. sym (cond-false (q d) (f d ∷ []) [] t)))))
+
+-- who is woken, where the table stays and the state is known
+pub woken-at : (u u′ : Relations) (s t t′ : State) (rs : List Named) (r r′ : Report) (sections : List (Option ℕ)) → u′ ≡ u → t ≡ t′ → Sections-of u s sections → ((x : State) (ns : List Named) → Sections-of u′ x sections → r ≡ filled ns [] → r′ ≡ filled ns (woken u′ x t)) → r ≡ filled rs [] → r′ ≡ filled rs (woken u s t′)
+woken-at u u′ s t t′ rs r r′ sections same-u same-t known names is =
+    subst (λ (y : State). r′ ≡ filled rs (woken u s y)) same-t
+    (subst (λ (v : Relations). Sections-of v s sections → r′ ≡ filled rs (woken v s t)) same-u (λ k. names s rs k is) known)

@@ -3,3 +3,4 @@ pub mod Held
 pub mod Better
 pub mod Before
 pub mod Verdict
+pub mod Carried

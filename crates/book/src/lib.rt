@@ -1,6 +1,7 @@
 // The dispatch book (a lock manager): six calls and three questions, in fixed memory.
 pub mod answers;
 pub mod book;
+mod calls;
 mod changes;
 mod checks;
 mod looking;

@@ -6,7 +6,7 @@ ghost use mathlib.Core.Path.{_≡_};
 ghost use lib.ListN.{length, getD};
 ghost use Rattle.std.specs.declared.option.Option.the-variants.{None};
 ghost use Rattle.model.specs.Claims.{dispatch-waits, waiting-section};
-ghost use Rattle.model.specs.State.{State};
+ghost use Rattle.model.specs.State.{State, taken-out};
 ghost use Rattle.model.specs.Recalling.{Named, named};
 ghost use Rattle.model.specs.Calls.{filled, woken};
 ghost use Rattle.book.specs.Held.{state};
@@ -53,5 +53,18 @@ impl<T: UseTable, O> Book<T, O> {
         for e in self.opened.rows() {
             self.name_if_woken(before, e.dispatch, report);
         }
+    }
+
+    // Takes out an open dispatch, and names who is woken by it.
+    pub(crate) fn end(&mut self, dispatch: u8, report: &mut Report)
+        requires { ⌜ now report ≡ filled [] [] ⌝ }
+        ensures after { λ _. ⌜ state (now (self .exit)) ≡ taken-out dispatch (state (now (self .entry))) ⌝ }
+        ensures named { λ _. ⌜ now (report .exit) ≡ filled [] (woken (T·UseTable .meaning (now (self .entry) .table)) (state (now (self .entry))) (taken-out dispatch (state (now (self .entry))))) ⌝ }
+        ensures table { λ _. ⌜ now (self .exit) .table ≡ now (self .entry) .table ⌝ }
+        ensures order { λ _. ⌜ now (self .exit) .order ≡ now (self .entry) .order ⌝ }
+    {
+        let before = self.waiting_sections();
+        self.take_out(dispatch);
+        self.name_all_woken(&before, report);
     }
 }

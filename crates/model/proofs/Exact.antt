@@ -117,7 +117,7 @@ first-exact u o lawful s w among d =
     (first-is u o lawful s w among d, λ a. is-first u o lawful s w among d a (first u o s (kept-by among (numbers (s .opened)))) refl)
 
 -- each recall takes one open dispatch out
-recalls-shorten : (u : Relations) (o : Order) {s t : State} {ns : List Named} → Recalls u o s ns t → Grounded s → length ns + length (t .opened) ≤ length (s .opened)
+pub recalls-shorten : (u : Relations) (o : Order) {s t : State} {ns : List Named} → Recalls u o s ns t → Grounded s → length ns + length (t .opened) ≤ length (s .opened)
 recalls-shorten u o (done clear) g = omega arith
 recalls-shorten u o {s} (next {n = n} cycle best rest) g =
     let shorter = closed-shorter (n .dispatch) (s .opened) (cycle-open u s g (n .dispatch) cycle) in
