@@ -5,3 +5,4 @@ pub mod Victims
 pub mod Turning
 pub mod Waking
 pub mod Carrying
+pub mod Entering

@@ -2,7 +2,8 @@
 ghost use Prim.Native.Nat.{_<_, _≤_};
 ghost use mathlib.Core.Bool.{true, false};
 ghost use mathlib.Core.Path.{_≡_};
-ghost use Rattle.model.specs.State.{new as new-state, is-open, taken-out, recall as recall-state};
+ghost use lib.ListN.{length};
+ghost use Rattle.model.specs.State.{new as new-state, is-open, taken-out, entered, recall as recall-state};
 ghost use Rattle.book.specs.Held.{state};
 use crate::book::Book;
 use crate::opened::Others;
@@ -11,6 +12,7 @@ use crate::opened::is_listed;
 use claims::claim_table::ClaimTable;
 use lists::fixed_list::FixedList;
 use marks::Marks;
+use model::state::Claim;
 use model::state::Detection;
 use model::state::Opened;
 
@@ -61,5 +63,16 @@ impl<T, O> Book<T, O> {
     {
         self.take_out(dispatch);
         self.recalled.insert(dispatch);
+    }
+
+    // Enters a claim of an open dispatch at the end of the claim list.
+    pub(crate) fn enter(&mut self, claim: Claim)
+        requires here { ⌜ is-open (state (now self)) (claim .dispatch) ≡ true ⌝ }
+        requires room { ⌜ length (state (now self) .claims) < 512 ⌝ }
+        ensures after { λ _. ⌜ state (now (self .exit)) ≡ entered claim (state (now (self .entry))) ⌝ }
+        ensures table { λ _. ⌜ now (self .exit) .table ≡ now (self .entry) .table ⌝ }
+        ensures order { λ _. ⌜ now (self .exit) .order ≡ now (self .entry) .order ⌝ }
+    {
+        self.claims.enter(claim);
     }
 }

@@ -4,6 +4,7 @@ pub mod book;
 mod calls;
 mod changes;
 mod checks;
+mod claiming;
 mod looking;
 mod opened;
 mod recalls;
