@@ -6,3 +6,4 @@ pub mod Turning
 pub mod Waking
 pub mod Carrying
 pub mod Entering
+pub mod ClaimCalls

@@ -1,7 +1,8 @@
 // The six calls.
 ghost use mathlib.Core.Path.{_≡_};
 ghost use Rattle.model.specs.Invariant.{No-cycle};
-ghost use Rattle.model.specs.declared.call.Call.the-variants.{Open, Close, Withdraw, Acknowledge, Sweep};
+ghost use Rattle.model.specs.declared.call.Call.the-variants.{Open, Claim as ClaimCall, Close, Withdraw, Acknowledge, Sweep};
+ghost use Rattle.model.specs.declared.state.Detection.the-variants.{Continuous};
 ghost use Rattle.book.specs.Carried.{Carried-out};
 ghost use Rattle.book.specs.Held.{state};
 use crate::answers::Answer;
@@ -11,6 +12,9 @@ use crate::reports::clear;
 use model::report::Report;
 use orders::order::RecallOrder;
 use uses::table::UseTable;
+
+// As many claims as a book holds.
+const MOST_CLAIMS: usize = 512;
 
 impl<T: UseTable, O: RecallOrder> Book<T, O> {
     // Opens a dispatch (begins a transaction).
@@ -28,6 +32,35 @@ impl<T: UseTable, O: RecallOrder> Book<T, O> {
         let entry = self.check_open(dispatch, weight)?;
         self.opened.push(entry);
         Ok(Answer::Ok)
+    }
+
+    // Claims a section for a use (requests a lock). A claim that nothing blocks is not looked at for
+    // cycles: it adds no step of waiting, and in a continuous book none stood before.
+    pub fn claim(
+        &mut self,
+        dispatch: u32,
+        section: u32,
+        mode: u32,
+        report: &mut Report,
+    ) -> Result<Answer, Refusal>
+        ensures done { λ r. ⌜ ((state (now (self .entry)) .detection ≡ Continuous → No-cycle (T·UseTable .meaning (now (self .entry) .table)) (state (now (self .entry)))) → Carried-out (T·UseTable .meaning (now (self .entry) .table)) (O·RecallOrder .meaning (now (self .entry) .order)) (state (now (self .entry))) (ClaimCall dispatch section mode) r (now (report .exit)) (state (now (self .exit)))) ⌝ }
+        ensures table { λ _. ⌜ now (self .exit) .table ≡ now (self .entry) .table ⌝ }
+        ensures order { λ _. ⌜ now (self .exit) .order ≡ now (self .entry) .order ⌝ }
+    {
+        clear(report);
+        let claim = self.check_claim(dispatch, section, mode)?;
+        if self.claims
+            .is_covered(&self.table, claim.dispatch, claim.section, claim.mode) {
+            return Ok(Answer::Covered);
+        }
+        if self.claims.len() >= MOST_CLAIMS {
+            return Err(Refusal::NoRoom);
+        }
+        if !self.claims.is_blocked(&self.table, claim) {
+            self.enter(claim);
+            return Ok(Answer::Granted);
+        }
+        Ok(self.enter_blocked(claim, report))
     }
 
     // Closes a dispatch that runs (commits).
