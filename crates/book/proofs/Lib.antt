@@ -7,3 +7,4 @@ pub mod Waking
 pub mod Carrying
 pub mod Entering
 pub mod ClaimCalls
+pub mod GoesOn

@@ -4,3 +4,4 @@ pub mod Better
 pub mod Before
 pub mod Verdict
 pub mod Carried
+pub mod Asked

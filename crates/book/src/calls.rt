@@ -1,9 +1,7 @@
 // The six calls.
 ghost use mathlib.Core.Path.{_≡_};
-ghost use Rattle.model.specs.Invariant.{No-cycle};
 ghost use Rattle.model.specs.declared.call.Call.the-variants.{Open, Claim as ClaimCall, Close, Withdraw, Acknowledge, Sweep};
-ghost use Rattle.model.specs.declared.state.Detection.the-variants.{Continuous};
-ghost use Rattle.book.specs.Carried.{Carried-out};
+ghost use Rattle.book.specs.Carried.{Carried-out, Clear};
 ghost use Rattle.book.specs.Held.{state};
 use crate::answers::Answer;
 use crate::answers::Refusal;
@@ -43,7 +41,7 @@ impl<T: UseTable, O: RecallOrder> Book<T, O> {
         mode: u32,
         report: &mut Report,
     ) -> Result<Answer, Refusal>
-        ensures done { λ r. ⌜ ((state (now (self .entry)) .detection ≡ Continuous → No-cycle (T·UseTable .meaning (now (self .entry) .table)) (state (now (self .entry)))) → Carried-out (T·UseTable .meaning (now (self .entry) .table)) (O·RecallOrder .meaning (now (self .entry) .order)) (state (now (self .entry))) (ClaimCall dispatch section mode) r (now (report .exit)) (state (now (self .exit)))) ⌝ }
+        ensures done { λ r. ⌜ (Clear (T·UseTable .meaning (now (self .entry) .table)) (state (now (self .entry))) → Carried-out (T·UseTable .meaning (now (self .entry) .table)) (O·RecallOrder .meaning (now (self .entry) .order)) (state (now (self .entry))) (ClaimCall dispatch section mode) r (now (report .exit)) (state (now (self .exit)))) ⌝ }
         ensures table { λ _. ⌜ now (self .exit) .table ≡ now (self .entry) .table ⌝ }
         ensures order { λ _. ⌜ now (self .exit) .order ≡ now (self .entry) .order ⌝ }
     {

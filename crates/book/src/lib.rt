@@ -2,11 +2,13 @@
 pub mod answers;
 pub mod book;
 mod calls;
+mod carry_out;
 mod changes;
 mod checks;
 mod claiming;
 mod looking;
 mod opened;
+pub mod questions;
 mod recalls;
 mod reports;
 mod wakes;
