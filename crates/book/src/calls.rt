@@ -11,9 +11,6 @@ use model::report::Report;
 use orders::order::RecallOrder;
 use uses::table::UseTable;
 
-// As many claims as a book holds.
-const MOST_CLAIMS: usize = 512;
-
 impl<T: UseTable, O: RecallOrder> Book<T, O> {
     // Opens a dispatch (begins a transaction).
     pub fn open(
@@ -51,7 +48,7 @@ impl<T: UseTable, O: RecallOrder> Book<T, O> {
             .is_covered(&self.table, claim.dispatch, claim.section, claim.mode) {
             return Ok(Answer::Covered);
         }
-        if self.claims.len() >= MOST_CLAIMS {
+        if self.is_full() {
             return Err(Refusal::NoRoom);
         }
         if !self.claims.is_blocked(&self.table, claim) {

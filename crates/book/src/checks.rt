@@ -1,6 +1,8 @@
 // The checks of the calls, in the order of their numbers.
 ghost use mathlib.Core.List.{[], _∷_};
 ghost use mathlib.Core.Path.{_≡_};
+ghost use lib.Dec.{leb};
+ghost use lib.ListN.{length};
 ghost use Rattle.model.specs.Claims.{dispatch-waits};
 ghost use Rattle.model.specs.Calls.{refusal, number-too-high, section-too-high, unknown-use, weight-too-high, recalled-already, open-already, not-open, waiting-already, not-recalled};
 ghost use Rattle.book.specs.Held.{state};
@@ -17,6 +19,8 @@ const LAST_NUMBER: u32 = 63;
 const LAST_SECTION: u32 = 1023;
 
 const HEAVIEST: u32 = 1000;
+
+const MOST_CLAIMS: usize = 512;
 
 // The dispatch number, if it is one.
 pub fn number(dispatch: u32) -> Result<u8, Refusal>
@@ -46,22 +50,29 @@ impl<T: UseTable, O> Book<T, O> {
         self.claims.waiting_section(&self.table, dispatch).is_some()
     }
 
+    // Do as many claims stand as a book holds?
+    pub(crate) fn is_full(&self) -> bool
+        ensures { λ r. ⌜ r ≡ leb 512 (length (state (now (self .entry)) .claims)) ⌝ }
+    {
+        self.claims.len() >= MOST_CLAIMS
+    }
+
     // May the dispatch be opened with this weight?
     pub(crate) fn check_open(&self, dispatch: u32, weight: u32) -> Result<Opened, Refusal>
         ensures { λ r. ⌜ Verdict r (refusal (number-too-high dispatch ∷ weight-too-high weight ∷ recalled-already (state (now (self .entry))) dispatch ∷ open-already (state (now (self .entry))) dispatch ∷ [])) (λ e. e ≡ record { dispatch = dispatch; weight = weight }) ⌝ }
     {
-        let number = number(dispatch)?;
+        let newcomer = number(dispatch)?;
         if weight > HEAVIEST {
             return Err(Refusal::WeightTooHigh);
         }
-        if self.recalled.contains(number) {
+        if self.recalled.contains(newcomer) {
             return Err(Refusal::IsRecalled);
         }
-        if self.is_open(number) {
+        if self.is_open(newcomer) {
             return Err(Refusal::IsOpen);
         }
         Ok(Opened {
-            dispatch: number,
+            dispatch: newcomer,
             weight: weight as u16,
         })
     }
@@ -100,20 +111,20 @@ impl<T: UseTable, O> Book<T, O> {
     ) -> Result<Claim, Refusal>
         ensures { λ r. ⌜ Verdict r (refusal (number-too-high dispatch ∷ section-too-high section ∷ unknown-use (T·UseTable .meaning (now (self .entry) .table)) mode ∷ recalled-already (state (now (self .entry))) dispatch ∷ not-open (state (now (self .entry))) dispatch ∷ waiting-already (T·UseTable .meaning (now (self .entry) .table)) (state (now (self .entry))) dispatch ∷ [])) (λ c. c ≡ record { dispatch = dispatch; section = section; mode = mode }) ⌝ }
     {
-        let number = number(dispatch)?;
+        let claimant = number(dispatch)?;
         let section = section_number(section)?;
         self.table.check(mode)?;
-        if self.recalled.contains(number) {
+        if self.recalled.contains(claimant) {
             return Err(Refusal::IsRecalled);
         }
-        if !self.is_open(number) {
+        if !self.is_open(claimant) {
             return Err(Refusal::IsFree);
         }
-        if self.waits(number) {
+        if self.waits(claimant) {
             return Err(Refusal::IsWaiting);
         }
         Ok(Claim {
-            dispatch: number,
+            dispatch: claimant,
             section,
             mode,
         })

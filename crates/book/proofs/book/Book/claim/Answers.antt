@@ -2,12 +2,12 @@ use Prim.Native.Nat.{_<_, _≤_}
 use mathlib.Core.Bool.{true, false}
 use mathlib.Core.List.{List, [], _∷_, _++_}
 use mathlib.Core.Path.{_≡_, refl, sym, ap, subst, _∙_}
-use native.Mathlib.Omega.{arith}
 use lib.ListN.{length}
 use Rattle.std.specs.declared.option.Option.the-variants.{Some, None}
 use Rattle.std.specs.declared.result.Result.{Result}
 use Rattle.std.specs.declared.result.Result.the-variants.{Ok, Err}
 use Rattle.std.proofs.shelf.Results.{err-from-errBy}
+use Rattle.std.proofs.shelf.Tests.{leb-true, leb-false}
 use Rattle.claims.specs.Claims.{claims}
 use Rattle.uses.specs.Relations.{Relations}
 use Rattle.model.specs.State.{State, entered}
@@ -65,8 +65,8 @@ returns-then-is-covered g c =
       order = refl;
     }
 
-pub returns-then-len-ge-MOST-CLAIMS : need.returns-then-len-ge-MOST-CLAIMS
-returns-then-len-ge-MOST-CLAIMS g c =
+pub returns-then-is-full : need.returns-then-is-full
+returns-then-is-full g c =
     let b = c .args .self .now in
     let u = g .T·UseTable .meaning (b .table) in
     let o = g .O·RecallOrder .meaning (b .order) in
@@ -75,7 +75,7 @@ returns-then-len-ge-MOST-CLAIMS g c =
     let checked = c .in-Continue-claim .ensures tt in
     let passed = passed-at u (state b) x y (checked .1) (checked .0) in
     let new = sym (c .if-is-covered .ensures tt) in
-    let full : 512 ≤ length (claims (b .claims)) = omega (arith, c .len .ensures, c .if-len-ge-MOST-CLAIMS .taken) in
+    let full : 512 ≤ length (claims (b .claims)) = leb-true 512 (length (claims (b .claims))) (sym (c .if-is-full .ensures tt)) in
     record {
       done = λ clear. carried-at u o (state b) x y (Err NoRoom) (c .clear .last .report) (state b) (checked .1) (carried-no-room u o (state b) x passed (c .clear .last .report) new full (c .clear .ensures));
       table = refl;
@@ -92,7 +92,7 @@ returns-then-not-is-blocked g c =
     let checked = c .in-Continue-claim .ensures tt in
     let passed = passed-at u (state b) x y (checked .1) (checked .0) in
     let new = sym (c .if-is-covered .ensures tt) in
-    let room : length (claims (b .claims)) < 512 = omega (arith, c .len .ensures, c .if-len-ge-MOST-CLAIMS .left) in
+    let room : length (claims (b .claims)) < 512 = leb-false 512 (length (claims (b .claims))) (sym (c .if-is-full .ensures tt)) in
     let free = sym (c .is-blocked .ensures) ∙ c .if-not-is-blocked .taken in
     record {
       done = λ clear. carried-at u o (state b) x y (Ok answer.Granted) (c .clear .last .report) (state (c .enter .last .self)) (checked .1) (carried-granted u o (state b) x passed new room (g .O·RecallOrder·met .lawful (b .order)) (book-steady b) (c .clear .last .report) (state (c .enter .last .self)) free clear (c .clear .ensures) (c .enter .ensures .after));
@@ -110,7 +110,7 @@ returns g c =
     let checked = c .in-Continue-claim .ensures tt in
     let passed = passed-at u (state b) x y (checked .1) (checked .0) in
     let new = sym (c .if-is-covered .ensures tt) in
-    let room : length (claims (b .claims)) < 512 = omega (arith, c .len .ensures, c .if-len-ge-MOST-CLAIMS .left) in
+    let room : length (claims (b .claims)) < 512 = leb-false 512 (length (claims (b .claims))) (sym (c .if-is-full .ensures tt)) in
     let does = c .enter-blocked .ensures in
     record {
       done = λ clear. carried-at u o (state b) x y (Ok (c .enter-blocked .result)) (c .enter-blocked .last .report) (state (c .enter-blocked .last .self)) (checked .1) (carried-entered u o (state b) x passed new room (c .enter-blocked .result) (c .enter-blocked .last .report) (state (c .enter-blocked .last .self)) (claimed u (x .dispatch) (after-entry u o (b .detection) (entered x (state b)))) refl (does .answer) (does .named) (does .after));
