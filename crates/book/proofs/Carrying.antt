@@ -1,14 +1,14 @@
 -- From the parts of a call to what it promises.
 use Prim.Native.Nat.{ℕ}
-use mathlib.Core.List.{List, [], _∷_, _++_}
-use mathlib.Core.Path.{_≡_, refl, sym, ap, subst, _∙_}
+use mathlib.Core.List.{[]}
+use mathlib.Core.Path.{_≡_, refl, sym, ap, _∙_}
 use Rattle.std.specs.declared.option.Option.{Option}
 use Rattle.std.specs.declared.option.Option.the-variants.{Some, None}
 use Rattle.std.specs.declared.result.Result.the-variants.{Ok, Err}
 use Rattle.uses.specs.Relations.{Relations}
 use Rattle.model.specs.State.{State}
-use Rattle.model.specs.Recalling.{Order, Named}
-use Rattle.model.specs.Calls.{Outcome, Effect, is-refused, checks, refusal, plain, accepted, effect, woken, with-wakes, step, filled, report}
+use Rattle.model.specs.Recalling.{Order}
+use Rattle.model.specs.Calls.{Outcome, Effect, checks, refusal, accepted, effect, woken, with-wakes, step, filled, report}
 use Rattle.model.specs.declared.call.Call.{Call}
 use Rattle.model.specs.declared.report.Report.{Report}
 use Rattle.model.proofs.Wakes.{woken-same}

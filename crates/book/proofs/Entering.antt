@@ -1,22 +1,19 @@
 -- A claim that is entered: blocked or not, and who answers for it.
-use Prim.Native.Nat.{ℕ, zero, suc, _<_, _≤_}
-use mathlib.Core.Bool.{Bool, true, false, _&&_, _||_, not, cond}
+use Prim.Native.Nat.{ℕ, _≤_}
+use mathlib.Core.Bool.{Bool, true, false, not, cond}
 use mathlib.Core.List.{List, [], _∷_, _++_}
-use mathlib.Core.Logic.{⊎-elim}
-use mathlib.Core.Path.{_≡_, refl, sym, ap, subst, _∙_}
+use mathlib.Core.Path.{_≡_, refl, sym, ap, _∙_}
 use native.Mathlib.Omega.{arith}
-use lib.Dec.{eqb, leb}
 use lib.ListN.{length}
 use Rattle.std.specs.declared.option.Option.{Option}
 use Rattle.std.specs.declared.option.Option.the-variants.{Some, None}
-use Rattle.std.proofs.shelf.Tests.{and-parts, cond-false, cases-bool, not-from-false, false≢true}
 use Rattle.std.proofs.shelf.Ways.{tells}
 use Rattle.uses.specs.Relations.{Relations}
 use Rattle.orders.specs.Laws.{OrderLaws}
-use Rattle.model.specs.Search.{any, member}
-use Rattle.model.specs.Claims.{of, blocks, waits-for, dispatch-waits, covered}
-use Rattle.model.specs.State.{State, is-open, entered, recall}
-use Rattle.model.specs.Recalling.{Order, Named, Recalled, nobody, first, on-cycles, recalling-at-most, recalling}
+use Rattle.model.specs.Search.{any}
+use Rattle.model.specs.Claims.{blocks, waits-for, dispatch-waits}
+use Rattle.model.specs.State.{State, is-open, entered}
+use Rattle.model.specs.Recalling.{Order, Named, nobody, first, on-cycles, recalling}
 use Rattle.model.specs.Calls.{Answer, Check, refusal, Effect, claimed, claim-answer, is-named, after-entry, is-granted, is-waiting, is-recalled}
 use Rattle.model.specs.Invariant.{No-cycle}
 use Rattle.model.specs.declared.state.Claim.{Claim}
@@ -26,7 +23,7 @@ use Rattle.model.proofs.Graphs.{leads-wider}
 use Rattle.model.proofs.ClaimLists.{dispatch-waits-push, no-edge}
 use Rattle.model.proofs.Numbers.{open-closed}
 use Rattle.model.proofs.Recalls.{Grounded, Recalls, done, next, recalls, in-cycles, first-some}
-use Rattle.model.proofs.Turns.{turn-none, turn-last, recalling-turns}
+use Rattle.model.proofs.Turns.{turn-none, recalling-turns}
 
 -- checks that pass leave the verdict to those that follow
 pub refusal-rest : (cs ds : List Check) → refusal cs ≡ None → refusal (cs ++ ds) ≡ refusal ds

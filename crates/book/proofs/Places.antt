@@ -1,7 +1,7 @@
 -- The places of a report, with one more name.
 use Prim.Native.Nat.{ℕ, zero, suc, _+_, _<_, _≤_}
 use mathlib.Core.List.{List, [], _∷_, _++_, map}
-use mathlib.Core.Path.{_≡_, refl, sym, ap, subst, _∙_}
+use mathlib.Core.Path.{_≡_, sym, ap, _∙_}
 use native.Mathlib.Omega.{arith}
 use lib.ListN.{length, take, set, replicate}
 use Rattle.std.proofs.shelf.Lists.{length-map, length-append, length-push, map-push, append-nil, append-assoc, take-replicate}

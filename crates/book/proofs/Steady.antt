@@ -1,8 +1,8 @@
 -- What the book's tables keep: open numbers differ and are below 64, and every claim is of an open dispatch.
-use Prim.Native.Nat.{ℕ, _+_, _<_, _≤_}
-use mathlib.Core.Bool.{Bool, true, false, _&&_, _||_, not}
-use mathlib.Core.List.{List, [], _∷_, _++_, map}
-use mathlib.Core.Path.{_≡_, refl, sym, ap, subst, _∙_}
+use Prim.Native.Nat.{ℕ, _<_, _≤_}
+use mathlib.Core.Bool.{true, false, not}
+use mathlib.Core.List.{List, [], _∷_, _++_}
+use mathlib.Core.Path.{_≡_, ap, _∙_}
 use native.Mathlib.Omega.{arith}
 use lib.Dec.{eqb, ltb}
 use lib.ListN.{length, getD}
@@ -11,9 +11,9 @@ use Rattle.std.specs.shelf.Lists.{All}
 use Rattle.std.proofs.shelf.Lists.{length-map, length-push}
 use Rattle.std.proofs.shelf.Tests.{and-parts, ltb-true, false≢true}
 use Rattle.std.proofs.shelf.Ways.{tells}
-use Rattle.model.specs.Search.{any, member}
+use Rattle.model.specs.Search.{member}
 use Rattle.model.specs.Claims.{of, without}
-use Rattle.model.specs.State.{State, numbers, is-open, closed}
+use Rattle.model.specs.State.{State, numbers, closed}
 use Rattle.model.specs.declared.state.Claim.{Claim}
 use Rattle.model.specs.declared.state.Opened.{Opened}
 use Rattle.claims.proofs.Small.{all-pass-at}

@@ -1,6 +1,6 @@
 -- The rows of the waits-for graph, and who goes first of those on a cycle.
 use Prim.Native.Nat.{ℕ, _+_, _<_, _≤_}
-use mathlib.Core.Bool.{Bool, true, false, not, cond}
+use mathlib.Core.Bool.{Bool, true, false, cond}
 use mathlib.Core.List.{List, [], _∷_, _++_}
 use mathlib.Core.Logic.{⊎-elim}
 use mathlib.Core.Path.{_≡_, refl, sym, ap, subst, _∙_}
@@ -20,7 +20,6 @@ use Rattle.marks.specs.Marks.{marked, unmarked}
 use Rattle.marks.specs.declared.Marks.{Marks}
 use Rattle.marks.proofs.Bits.{none-marked}
 use Rattle.cycles.specs.Rows.{relation}
-use Rattle.model.specs.Search.{member}
 use Rattle.model.specs.Graph.{On-cycle, on-cycle}
 use Rattle.model.specs.Claims.{waits-for}
 use Rattle.model.specs.State.{State, numbers}

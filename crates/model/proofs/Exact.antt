@@ -1,9 +1,9 @@
 -- The first of a set is the only one, and reports fit.
-use Prim.Native.Nat.{ℕ, suc, _+_, _<_, _≤_}
-use mathlib.Core.Bool.{Bool, true, false, _&&_, not, cond}
-use mathlib.Core.List.{List, [], _∷_, _++_}
+use Prim.Native.Nat.{ℕ, _+_, _≤_}
+use mathlib.Core.Bool.{Bool, true, false, _&&_, not}
+use mathlib.Core.List.{List, [], _∷_}
 use mathlib.Core.Logic.{_⊎_, inl, inr, ⊎-elim}
-use mathlib.Core.Path.{_≡_, refl, sym, ap, subst, _∙_}
+use mathlib.Core.Path.{_≡_, refl, sym, ap, _∙_}
 use native.Mathlib.Omega.{arith}
 use lib.Dec.{eqb}
 use lib.ListN.{length}
@@ -17,11 +17,11 @@ use Rattle.std.proofs.shelf.Ways.{tells}
 use Rattle.uses.specs.Relations.{Relations}
 use Rattle.orders.specs.Laws.{OrderLaws}
 use Rattle.model.specs.Search.{member, last}
-use Rattle.model.specs.State.{State, numbers, is-open}
+use Rattle.model.specs.State.{State, numbers}
 use Rattle.model.specs.Recalling.{Order, Named, named, standing, strictly-before, unbeaten, first}
 use Rattle.model.specs.Claims.{dispatch-waits}
 use Rattle.model.specs.Calls.{Effect, checks, refusal, effect, woken, step}
-use Rattle.model.specs.Invariant.{Well-formed, Invariant}
+use Rattle.model.specs.Invariant.{Well-formed}
 use Rattle.model.specs.Firsts.{Is-first}
 use Rattle.model.specs.Law.{once-entered}
 use Rattle.model.specs.Theorems.{First-exact, Report-fits}

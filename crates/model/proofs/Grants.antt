@@ -1,23 +1,22 @@
 -- What was granted since opening is backed by a held claim that covers it.
 use Prim.Native.Nat.{ℕ}
-use mathlib.Core.Bool.{Bool, true, false, _&&_, _||_, not, cond}
-use mathlib.Core.List.{List, [], _∷_, _++_, map}
-use mathlib.Core.Path.{_≡_, refl, sym, ap, subst, _∙_}
+use mathlib.Core.Bool.{Bool, true, false, _&&_, not}
+use mathlib.Core.List.{List, []}
+use mathlib.Core.Path.{_≡_, refl, sym, subst, _∙_}
 use native.Mathlib.Omega.{arith}
 use lib.Dec.{eqb}
-use Rattle.std.specs.declared.option.Option.the-variants.{Some, None}
+use Rattle.std.specs.declared.option.Option.the-variants.{None}
 use Rattle.std.specs.shelf.Lists.{kept-by}
 use Rattle.std.proofs.shelf.Tests.{cond-both, and-parts, eqb-true, not-true, ne-eqb}
 use Rattle.std.proofs.shelf.Ways.{tells}
 use Rattle.uses.specs.Relations.{Relations, UseLaws}
 use Rattle.orders.specs.Laws.{OrderLaws}
-use Rattle.model.specs.Search.{any}
-use Rattle.model.specs.Claims.{placed, of, without, waits, dispatch-waits, covered, claim-waits}
+use Rattle.model.specs.Claims.{placed, of, waits, dispatch-waits, covered, claim-waits}
 use Rattle.model.specs.State.{State, numbers, is-open, taken-out, entered, recall}
 use Rattle.model.specs.Recalling.{Order, Named, named, recalling}
-use Rattle.model.specs.Calls.{Answer, is-ok, is-granted, is-covered, is-waiting, is-recalled, is-refused, checks, refusal, Effect, plain, claimed, claim-answer, is-named, after-entry, accepted, effect, woken, step}
+use Rattle.model.specs.Calls.{is-granted, is-covered, checks, refusal, Effect, plain, claimed, after-entry, accepted, woken, step}
 use Rattle.model.specs.Invariant.{claim-in-range, Well-formed, Invariant}
-use Rattle.model.specs.Runs.{Run, start, next, at, outcome, names, Grants, granted, covered as answered-covered, woken as named-woken, Granted, just-now, before}
+use Rattle.model.specs.Runs.{Run, start, next, at, names, Grants, granted, covered as answered-covered, woken as named-woken, Granted, just-now, before}
 use Rattle.model.specs.Law.{Is-entered, Exclusion}
 use Rattle.model.specs.declared.call.Call.{Call}
 use Rattle.model.specs.declared.call.Call.the-variants as call

@@ -1,20 +1,20 @@
 -- What each change of the state keeps.
-use Prim.Native.Nat.{ℕ, suc, _+_, _<_, _≤_}
-use mathlib.Core.Bool.{Bool, true, false, _&&_, _||_, not, cond}
+use Prim.Native.Nat.{ℕ, _<_, _≤_}
+use mathlib.Core.Bool.{true, false, not}
 use mathlib.Core.List.{List, [], _∷_, _++_}
 use mathlib.Core.Logic.{⊎-elim}
 use mathlib.Core.Path.{_≡_, refl, ap, _∙_}
 use native.Mathlib.Omega.{arith}
-use lib.Dec.{eqb, ltb, leb}
+use lib.Dec.{eqb}
 use lib.ListN.{length}
 use Rattle.std.specs.shelf.Lawful.{all-pass}
 use Rattle.std.proofs.shelf.Lists.{length-push}
 use Rattle.std.proofs.shelf.Tests.{cases-eq, false≢true}
 use Rattle.std.proofs.shelf.Ways.{tells}
 use Rattle.uses.specs.Relations.{Relations}
-use Rattle.model.specs.Search.{any, member}
-use Rattle.model.specs.Claims.{of, without, blocks, dispatch-waits, waiting-claims}
-use Rattle.model.specs.State.{State, new, numbers, is-open, closed, taken-out, joined, recall, entered}
+use Rattle.model.specs.Search.{member}
+use Rattle.model.specs.Claims.{of, dispatch-waits, waiting-claims}
+use Rattle.model.specs.State.{State, new, numbers, is-open, taken-out, joined, recall, entered}
 use Rattle.model.specs.Calls.{opening, acknowledged}
 use Rattle.model.specs.Invariant.{entry-in-range, claim-in-range, Well-formed}
 use Rattle.model.specs.declared.state.Claim.{Claim}

@@ -1,24 +1,22 @@
 -- The law holds of every run.
-use Prim.Native.Nat.{ℕ, _+_, _<_, _≤_}
-use mathlib.Core.Bool.{Bool, true, false, not}
-use mathlib.Core.List.{List, [], _∷_, _++_, map}
+use Prim.Native.Nat.{_<_, _≤_}
+use mathlib.Core.Bool.{true}
+use mathlib.Core.List.{List, [], _∷_, _++_}
 use mathlib.Core.Logic.{_⊎_, inl, inr, ⊎-elim}
-use mathlib.Core.Path.{_≡_, refl, sym, ap, subst, _∙_}
+use mathlib.Core.Path.{_≡_, sym, subst, _∙_}
 use native.Mathlib.Omega.{arith}
-use lib.Dec.{eqb}
 use lib.ListN.{length}
 use Rattle.std.specs.shelf.Lawful.{all-pass}
 use Rattle.std.specs.shelf.Lists.{All}
-use Rattle.std.proofs.shelf.Lists.{length-map}
 use Rattle.std.proofs.shelf.Tests.{and-parts, cases-bool, both-ways, ltb-true}
 use Rattle.uses.specs.Relations.{Relations, UseLaws}
 use Rattle.orders.specs.Laws.{OrderLaws}
 use Rattle.model.specs.Claims.{waits-for, dispatch-waits}
-use Rattle.model.specs.State.{State, numbers, is-open}
-use Rattle.model.specs.Recalling.{Order, Named, recalling}
+use Rattle.model.specs.State.{State, numbers}
+use Rattle.model.specs.Recalling.{Order, Named}
 use Rattle.model.specs.Calls.{Effect, checks, refusal, effect, step}
 use Rattle.model.specs.Invariant.{entry-in-range, Well-formed, Invariant, No-cycle}
-use Rattle.model.specs.Runs.{Run, start, next, at, outcome, Each-moment, Each-call}
+use Rattle.model.specs.Runs.{Run, start, next, at, Each-moment, Each-call}
 use Rattle.model.specs.Graph.{Cycle-stands}
 use Rattle.model.specs.Law.{Exclusion, Waits-end, Progress, Iff, Recall-when, Recall-whom, Enters-claim, once-entered, once-recalled, Law}
 use Rattle.model.specs.declared.call.Call.{Call}
@@ -28,7 +26,7 @@ use Rattle.model.specs.declared.state.Opened.{Opened}
 use Rattle.model.proofs.Clashes.{some-after}
 use Rattle.model.proofs.Graphs.{at-most, chain-short, end-member}
 use Rattle.model.proofs.ClaimLists.{waits-waits-for}
-use Rattle.model.proofs.Recalls.{Recalls, steps-open, recalls, recalls-clear, recalls-some, recalls-cycle, Right, recalls-right}
+use Rattle.model.proofs.Recalls.{steps-open, recalls, recalls-clear, recalls-some, recalls-cycle, Right, recalls-right}
 use Rattle.model.proofs.Keeps.{grounded}
 use Rattle.model.proofs.Steps.{Looked, looks, looks-not, looked, step-detection, step-invariant}
 use Rattle.model.proofs.Grants.{run-invariant, exclusion}

@@ -1,6 +1,6 @@
 -- Recalling, as a relation: from one state to another the named are recalled, each the first of those on cycles, until no cycle stands.
-use Prim.Native.Nat.{ℕ, zero, suc, _+_, _<_, _≤_}
-use mathlib.Core.Bool.{Bool, true, false, _&&_, _||_, not, cond}
+use Prim.Native.Nat.{ℕ, zero, suc, _≤_}
+use mathlib.Core.Bool.{Bool, true, false, _&&_, not}
 use mathlib.Core.List.{List, [], _∷_, _++_}
 use mathlib.Core.Path.{_≡_, refl, sym, ap, subst, _∙_}
 use native.Mathlib.Omega.{arith}
@@ -9,8 +9,7 @@ use lib.ListN.{length}
 use Rattle.std.specs.Orderings.{Decides}
 use Rattle.std.specs.declared.option.Option.{Option}
 use Rattle.std.specs.declared.option.Option.the-variants.{Some, None}
-use Rattle.std.specs.shelf.Lawful.{all-pass}
-use Rattle.std.specs.shelf.Lists.{All, kept-by}
+use Rattle.std.specs.shelf.Lists.{kept-by}
 use Rattle.std.proofs.shelf.Elements.{kept-by-passes, all-kept-by}
 use Rattle.std.proofs.shelf.Lists.{nil-from-length}
 use Rattle.std.proofs.shelf.Tests.{and-parts, and-from, false≢true, not-true}
@@ -20,8 +19,8 @@ use Rattle.orders.specs.Laws.{OrderLaws}
 use Rattle.model.specs.Search.{any, member}
 use Rattle.model.specs.Graph.{On-cycle, Cycle-stands, on-cycle}
 use Rattle.model.specs.Claims.{of, without, waits-for}
-use Rattle.model.specs.State.{State, numbers, is-open, closed, recall}
-use Rattle.model.specs.Recalling.{Order, Named, Recalled, named, summary, strictly-before, unbeaten, first, on-cycles, recall-and, recalling-at-most, recalling}
+use Rattle.model.specs.State.{State, numbers, is-open, recall}
+use Rattle.model.specs.Recalling.{Order, Named, Recalled, summary, strictly-before, unbeaten, first, on-cycles, recall-and, recalling-at-most, recalling}
 use Rattle.model.specs.Invariant.{No-cycle}
 use Rattle.model.specs.Law.{once-recalled}
 use Rattle.model.specs.declared.state.Claim.{Claim}

@@ -1,11 +1,10 @@
 -- A call, step by step: refused or accepted, and if it looks for cycles, how.
-use Prim.Native.Nat.{ℕ, suc, _+_, _<_, _≤_}
-use mathlib.Core.Bool.{Bool, true, false, _&&_, _||_, not, cond}
-use mathlib.Core.List.{List, [], _∷_, _++_}
-use mathlib.Core.Logic.{_⊎_, inl, inr, ⊎-elim}
-use mathlib.Core.Path.{_≡_, refl, sym, ap, subst, _∙_}
+use Prim.Native.Nat.{ℕ, _<_, _≤_}
+use mathlib.Core.Bool.{true, false, cond}
+use mathlib.Core.List.{List, []}
+use mathlib.Core.Logic.{_⊎_, inl, inr}
+use mathlib.Core.Path.{_≡_, refl, subst}
 use native.Mathlib.Omega.{arith}
-use lib.Dec.{eqb, ltb, leb}
 use lib.ListN.{length}
 use Rattle.std.specs.declared.option.Option.{Option}
 use Rattle.std.specs.declared.option.Option.the-variants.{Some, None}
@@ -13,12 +12,11 @@ use Rattle.std.proofs.shelf.Tests.{cond-both, false≢true}
 use Rattle.std.proofs.shelf.Ways.{tells}
 use Rattle.uses.specs.Relations.{Relations}
 use Rattle.orders.specs.Laws.{OrderLaws}
-use Rattle.model.specs.Graph.{On-cycle}
 use Rattle.model.specs.Claims.{without, waits-for, dispatch-waits, covered}
-use Rattle.model.specs.State.{State, new, is-open, taken-out, entered, recall}
+use Rattle.model.specs.State.{State, new, is-open, taken-out, entered}
 use Rattle.model.specs.Recalling.{Order, Named, Recalled, recalling}
-use Rattle.model.specs.Calls.{Answer, is-ok, is-granted, is-covered, is-waiting, is-recalled, is-refused, checks, refusal, Effect, plain, claimed, claim-answer, is-named, after-entry, accepted, effect, step}
-use Rattle.model.specs.Invariant.{claim-in-range, Well-formed, Invariant, No-cycle}
+use Rattle.model.specs.Calls.{is-granted, is-covered, is-waiting, is-recalled, is-refused, checks, refusal, Effect, plain, claimed, claim-answer, is-named, after-entry, accepted, effect, step}
+use Rattle.model.specs.Invariant.{claim-in-range, Well-formed, Invariant}
 use Rattle.model.specs.Law.{Is-entered, Enters-claim, once-entered}
 use Rattle.model.specs.declared.call.Call.{Call}
 use Rattle.model.specs.declared.call.Call.the-variants as call

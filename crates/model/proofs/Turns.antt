@@ -1,8 +1,7 @@
 -- Recalling, one turn at a time; and the first of a list that grows.
-use Prim.Native.Nat.{ℕ, zero, suc, _+_, _≤_}
-use mathlib.Core.Bool.{Bool, true, false, _&&_, _||_, not, cond}
+use Prim.Native.Nat.{ℕ, zero, suc, _≤_}
+use mathlib.Core.Bool.{Bool, true, false, _&&_, not, cond}
 use mathlib.Core.List.{List, [], _∷_, _++_}
-use mathlib.Core.Logic.{_⊎_, inl, inr, ⊎-elim}
 use mathlib.Core.Path.{_≡_, refl, sym, ap, subst, _∙_}
 use native.Mathlib.Omega.{arith}
 use lib.Dec.{eqb}
@@ -14,13 +13,11 @@ use Rattle.std.specs.shelf.Lists.{kept-by}
 use Rattle.std.proofs.shelf.Elements.{kept-by-append}
 use Rattle.std.proofs.shelf.Lists.{nil-from-length, append-nil}
 use Rattle.std.proofs.shelf.Tests.{or-left, or-right, eq-eqb, cond-both, false≢true}
-use Rattle.std.proofs.shelf.Ways.{tells}
 use Rattle.uses.specs.Relations.{Relations}
 use Rattle.orders.specs.Laws.{OrderLaws}
 use Rattle.model.specs.Search.{member, last}
-use Rattle.model.specs.State.{State, numbers, is-open, closed, recall}
+use Rattle.model.specs.State.{State, numbers, is-open, recall}
 use Rattle.model.specs.Recalling.{Order, Recalled, named, nobody, recall-and, first, unbeaten, strictly-before, summary, on-cycles, recalling-at-most, recalling}
-use Rattle.model.proofs.Clashes.{clash}
 use Rattle.model.proofs.Numbers.{closed-shorter, all-pass-wider, all-pass-member}
 use Rattle.model.proofs.Recalls.{Grounded, grounded-recall, in-cycles, cycle-open, first-some, first-none}
 

@@ -1,19 +1,18 @@
 -- The first of a set.
-use Prim.Native.Nat.{ℕ, suc, _<_, _≤_}
-use mathlib.Core.Bool.{Bool, true, false, _&&_, _||_, not, cond}
-use mathlib.Core.List.{List, [], _∷_, _++_}
-use mathlib.Core.Logic.{_⊎_, inl, inr, ⊎-elim}
+use Prim.Native.Nat.{ℕ}
+use mathlib.Core.Bool.{Bool, true, false, _&&_, _||_}
+use mathlib.Core.List.{List, [], _∷_}
+use mathlib.Core.Logic.{⊎-elim}
 use mathlib.Core.Path.{_≡_, refl, sym, ap, subst, _∙_}
 use native.Mathlib.Omega.{arith}
 use lib.Dec.{eqb}
-use Rattle.std.specs.declared.option.Option.{Option}
 use Rattle.std.specs.declared.option.Option.the-variants.{Some, None}
 use Rattle.std.specs.shelf.Lawful.{all-pass}
 use Rattle.std.specs.shelf.Lists.{All, kept-by}
-use Rattle.std.proofs.shelf.Elements.{kept-by-passes, all-kept-by, all-weaker}
-use Rattle.std.proofs.shelf.Tests.{cases-bool, or-cases, or-left, or-right, and-parts, and-from, eq-eqb, false≢true}
+use Rattle.std.proofs.shelf.Elements.{all-weaker}
+use Rattle.std.proofs.shelf.Tests.{or-cases, or-left, or-right, and-from, eq-eqb, false≢true}
 use Rattle.std.proofs.shelf.Ways.{tells}
-use Rattle.model.specs.Search.{any, member, last}
+use Rattle.model.specs.Search.{member, last}
 use Rattle.model.proofs.Clashes.{clash, nonempty}
 use Rattle.model.proofs.Numbers.{all-pass-wider}
 

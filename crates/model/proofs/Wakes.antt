@@ -1,13 +1,12 @@
 -- Who is woken, where nobody is.
 use Prim.Native.Nat.{ℕ}
-use mathlib.Core.Bool.{Bool, true, false, _&&_, _||_, not}
-use mathlib.Core.List.{List, [], _∷_, _++_, map}
+use mathlib.Core.Bool.{Bool, true, false, _&&_, not}
+use mathlib.Core.List.{List, [], _∷_, map}
 use mathlib.Core.Path.{_≡_, refl, ap, subst}
 use native.Mathlib.Omega.{arith}
 use Rattle.std.specs.shelf.Lists.{kept-by}
 use Rattle.uses.specs.Relations.{Relations}
-use Rattle.model.specs.Claims.{of, blocks, dispatch-waits}
-use Rattle.model.specs.Search.{any}
+use Rattle.model.specs.Claims.{dispatch-waits}
 use Rattle.model.specs.State.{State, numbers, entered}
 use Rattle.model.specs.Recalling.{named}
 use Rattle.model.specs.Calls.{woken}

@@ -1,5 +1,4 @@
 -- The worked examples are right, by computation.
-use mathlib.Core.Path.{refl}
 use Rattle.std.specs.shelf.Lists.{All}
 use Rattle.uses.specs.Spans.{some-field}
 use Rattle.model.specs.Graph.{closure}

@@ -11,7 +11,7 @@ use Rattle.uses.specs.Spans.{spans}
 use Rattle.orders.specs.Orders.{newest, lightest}
 use Rattle.model.specs.State.{State, new}
 use Rattle.model.specs.Recalling.{Order, Named}
-use Rattle.model.specs.Calls.{Answer, Outcome, step, is-ok, is-granted, is-covered, is-waiting, is-recalled, is-refused}
+use Rattle.model.specs.Calls.{Answer, step, is-ok, is-granted, is-covered, is-waiting, is-recalled, is-refused}
 use Rattle.model.specs.declared.call.Call.{Call}
 use Rattle.model.specs.declared.call.Call.the-variants.{Open, Claim, Close, Acknowledge, Sweep}
 use Rattle.model.specs.declared.state.Detection.{Detection}

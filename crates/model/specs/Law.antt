@@ -1,6 +1,6 @@
 -- The law over runs: exclusion, progress and recall. `u` is the meaning of the use table, `o` that of the recall order.
 use Prim.Native.Nat.{ℕ, _≤_}
-use mathlib.Core.Bool.{Bool, true, false}
+use mathlib.Core.Bool.{true, false}
 use mathlib.Core.List.{List, [], _∷_, _++_}
 use mathlib.Core.Logic.{_⊎_}
 use mathlib.Core.Path.{_≡_}
@@ -14,7 +14,7 @@ use Rattle.model.specs.Calls.{Answer, is-granted, is-covered, is-waiting, is-r
 use Rattle.model.specs.Runs.{Run, at, outcome, Each-moment, Each-call, Granted}
 use Rattle.model.specs.declared.call.Call.{Call}
 use Rattle.model.specs.declared.call.Call.the-variants as call
-use Rattle.model.specs.declared.state.Detection.the-variants.{Continuous, Periodic}
+use Rattle.model.specs.declared.state.Detection.the-variants.{Continuous}
 
 -- two different open dispatches that were both granted uses of one section, since opening, were granted uses that do not conflict
 abbrev pub Exclusion : Relations → Order → Run → Type 0

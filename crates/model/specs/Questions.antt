@@ -1,14 +1,13 @@
 -- The three questions. They change nothing. `u` is the meaning of the use table.
 use Prim.Native.Nat.{ℕ}
-use mathlib.Core.Bool.{Bool, false, _&&_, not, cond}
-use lib.Dec.{ltb}
+use mathlib.Core.Bool.{Bool, _&&_, not, cond}
 use Rattle.std.specs.declared.option.Option.{Option}
 use Rattle.std.specs.declared.result.Result.{Result}
 use Rattle.std.specs.declared.result.Result.the-variants.{Ok, Err}
 use Rattle.uses.specs.Relations.{Relations}
 use Rattle.model.specs.Claims.{dispatch-waits, waits-for, waiting-section, holds}
 use Rattle.model.specs.State.{State, is-open}
-use Rattle.model.specs.Calls.{number-too-high, section-too-high, refusal}
+use Rattle.model.specs.Calls.{number-too-high, section-too-high}
 use Rattle.model.specs.declared.state.Condition.{Condition}
 use Rattle.model.specs.declared.state.Condition.the-variants.{Free, Running, Waiting, Recalled}
 

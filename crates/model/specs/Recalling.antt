@@ -1,6 +1,6 @@
 -- Recalling: who is on a cycle of waits, who of them goes first, and who goes until no cycle stands. `u` is the meaning of the use table, `o` that of the recall order.
 use Prim.Native.Nat.{ℕ, zero, suc}
-use mathlib.Core.Bool.{Bool, _&&_, not, cond}
+use mathlib.Core.Bool.{Bool, not, cond}
 use mathlib.Core.List.{List, [], _∷_}
 use lib.Dec.{eqb}
 use lib.ListN.{length}

@@ -1,6 +1,6 @@
 -- Sharing a field and having all fields of another span, and where to look for them.
 use Prim.Native.Nat.{ℕ, _-_, _<_, _≤_, max}
-use mathlib.Core.Bool.{Bool, true, false, _&&_, _||_, not}
+use mathlib.Core.Bool.{Bool, true, _&&_, _||_, not}
 use mathlib.Core.Path.{_≡_, refl}
 use native.Mathlib.Omega.{arith}
 use Rattle.std.specs.Orderings.{Decides}

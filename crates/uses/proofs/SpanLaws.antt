@@ -1,6 +1,5 @@
 -- The table of spans keeps the laws of a use table.
-use Prim.Native.Nat.{ℕ}
-use mathlib.Core.Bool.{Bool, true, false, _&&_, _||_, not}
+use mathlib.Core.Bool.{Bool, true, _||_, not}
 use mathlib.Core.Path.{_≡_, refl}
 use native.Mathlib.Omega.{arith}
 use Rattle.std.specs.Options.{isSome}
@@ -10,7 +9,6 @@ use Rattle.std.proofs.shelf.Ways.{tells}
 use Rattle.std.proofs.shelf.Tests.{and-parts, and-from, false≢true}
 use Rattle.uses.specs.Relations.{UseLaws}
 use Rattle.uses.specs.Spans.{share-a-field, has-all-fields-of, same, travel-one-way, spans-conflict, span-covers, between, span-of, spans}
-use Rattle.uses.specs.declared.spans.Direction.{Direction}
 use Rattle.uses.specs.declared.spans.Direction.the-variants.{Works}
 use Rattle.uses.specs.declared.spans.Span.{Span}
 use Rattle.uses.proofs.Fields.{share-symmetric, has-its-own, share-more}

@@ -1,4 +1,3 @@
-use native.Mathlib.Omega.{arith}
 use Rattle.marks.proofs.Bits.{remove-marked}
 use Rattle.marks.proofs.Marks.remove.Needs as need
 

@@ -1,11 +1,6 @@
-use mathlib.Core.List.{List, []}
-use mathlib.Core.Path.{_≡_, sym, ap, subst, _∙_}
-use Rattle.uses.specs.Relations.{Relations}
-use Rattle.model.specs.State.{State, taken-out}
-use Rattle.model.specs.Recalling.{Named}
-use Rattle.model.specs.Calls.{filled, woken}
-use Rattle.model.specs.declared.report.Report.{Report}
-use Rattle.book.specs.Before.{Sections-of}
+use mathlib.Core.List.{[]}
+use mathlib.Core.Path.{ap}
+use Rattle.model.specs.State.{taken-out}
 use Rattle.book.specs.Held.{state}
 use Rattle.book.proofs.Waking.{woken-at}
 use Rattle.book.proofs.book.Book.end.Needs as need

@@ -1,8 +1,8 @@
-use mathlib.Core.List.{List, []}
-use mathlib.Core.Path.{_≡_, refl, sym, ap, _∙_}
+use mathlib.Core.List.{[]}
+use mathlib.Core.Path.{sym, ap, _∙_}
 use Rattle.lists.specs.Entries.{entries}
 use Rattle.claims.specs.Claims.{claims}
-use Rattle.model.specs.State.{State, entered}
+use Rattle.model.specs.State.{entered}
 use Rattle.model.specs.Recalling.{Recalled, recalling}
 use Rattle.model.specs.Calls.{filled}
 use Rattle.model.specs.declared.report.Report.{Report}

@@ -1,10 +1,9 @@
-use mathlib.Core.List.{List, []}
-use mathlib.Core.Path.{_≡_, refl, sym, ap, subst, _∙_}
+use mathlib.Core.List.{[]}
+use mathlib.Core.Path.{_≡_, sym, ap, subst, _∙_}
 use Rattle.std.specs.declared.result.Result.the-variants.{Ok}
-use Rattle.model.specs.State.{State, entered}
+use Rattle.model.specs.State.{entered}
 use Rattle.model.specs.Calls.{Effect, filled, woken, claim-answer, after-entry}
 use Rattle.model.specs.declared.state.Detection.{Detection}
-use Rattle.model.specs.declared.state.Detection.the-variants.{Continuous, Periodic}
 use Rattle.model.proofs.Wakes.{woken-entered}
 use Rattle.book.specs.Held.{state}
 use Rattle.book.specs.Said.{said}

@@ -1,15 +1,12 @@
-use Prim.Native.Nat.{ℕ}
-use mathlib.Core.Bool.{Bool, not, _&&_}
 use mathlib.Core.List.{List, [], _∷_, _++_}
-use mathlib.Core.Path.{_≡_, refl, sym, ap, subst, _∙_}
+use mathlib.Core.Path.{refl, sym, ap, _∙_}
 use native.Mathlib.Omega.{arith}
-use lib.Dec.{eqb}
 use Rattle.std.proofs.shelf.Results.{err-from-errBy}
 use Rattle.marks.specs.Marks.{marked}
 use Rattle.lists.specs.Entries.{entries}
 use Rattle.claims.specs.Claims.{claims}
-use Rattle.model.specs.State.{State, taken-out}
-use Rattle.model.specs.Calls.{plain, is-ok, filled, woken, opening, acknowledged}
+use Rattle.model.specs.State.{State}
+use Rattle.model.specs.Calls.{plain, is-ok, filled, opening}
 use Rattle.model.specs.declared.call.Call.the-variants as call
 use Rattle.model.specs.declared.state.Opened.{Opened}
 use Rattle.model.proofs.Wakes.{woken-same}

@@ -1,5 +1,4 @@
-use Prim.Native.Nat.{ℕ, _+_, _<_}
-use mathlib.Core.Bool.{true}
+use Prim.Native.Nat.{ℕ, _+_}
 use mathlib.Core.List.{List, [], _∷_, _++_}
 use mathlib.Core.Path.{_≡_, refl, sym, ap, subst, _∙_}
 use native.Mathlib.Omega.{arith}
@@ -7,15 +6,14 @@ use lib.ListN.{length}
 use Rattle.std.specs.Options.{valueOr}
 use Rattle.std.specs.declared.option.Option.{Option}
 use Rattle.std.specs.declared.option.Option.the-variants.{Some, None}
-use Rattle.uses.specs.Relations.{Relations}
 use Rattle.model.specs.State.{State}
-use Rattle.model.specs.Recalling.{Order, Named, named, first, on-cycles}
+use Rattle.model.specs.Recalling.{Named, named}
 use Rattle.model.specs.Calls.{filled}
 use Rattle.model.specs.declared.report.Report.{Report}
 use Rattle.model.proofs.Turns.{victim-open}
 use Rattle.book.specs.Held.{state}
 use Rattle.book.proofs.Steady.{steady-few, steady-grounded, book-steady}
-use Rattle.book.proofs.Turning.{victim-same, named-same, Turned, Came, turned-none, turned-more, came-early, came-late}
+use Rattle.book.proofs.Turning.{victim-same, named-same, Turned, turned-none, turned-more, came-early, came-late}
 use Rattle.book.proofs.book.Book.recall_all.Needs as need
 
 pub loop-turn-holds : need.loop-turn-holds

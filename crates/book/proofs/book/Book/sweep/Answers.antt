@@ -1,20 +1,9 @@
-use Prim.Native.Nat.{ℕ}
-use mathlib.Core.Bool.{Bool, not, _&&_}
-use mathlib.Core.List.{List, [], _∷_, _++_}
-use mathlib.Core.Path.{_≡_, refl, sym, ap, subst, _∙_}
-use lib.Dec.{eqb}
-use Rattle.std.proofs.shelf.Results.{err-from-errBy}
-use Rattle.marks.specs.Marks.{marked}
-use Rattle.lists.specs.Entries.{entries}
-use Rattle.claims.specs.Claims.{claims}
-use Rattle.model.specs.State.{State, taken-out}
-use Rattle.model.specs.Calls.{plain, is-ok, filled, woken, opening, acknowledged}
+use mathlib.Core.Path.{refl, ap}
+use Rattle.model.specs.Calls.{woken}
 use Rattle.model.specs.declared.call.Call.the-variants as call
-use Rattle.model.specs.declared.state.Opened.{Opened}
-use Rattle.model.proofs.Wakes.{woken-same}
 use Rattle.book.specs.Held.{state}
 use Rattle.book.specs.declared.answers.Answer.the-variants as answer
-use Rattle.book.proofs.Carrying.{carried-refused, carried-accepted}
+use Rattle.book.proofs.Carrying.{carried-accepted}
 use Rattle.model.specs.Recalling.{recalling}
 use Rattle.model.specs.Calls.{swept}
 use Rattle.model.specs.declared.report.Report.{Report}
