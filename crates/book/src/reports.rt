@@ -11,10 +11,7 @@ use model::report::Report;
 pub fn clear(report: &mut Report)
     ensures { λ _. ⌜ now (report .exit) ≡ filled [] [] ⌝ }
 {
-    report.recalled = 0;
-    report.woken = 0;
-    report.dispatches = [255; 64];
-    report.sections = [65535; 64];
+    *report = Report::empty();
 }
 
 // Names one more recalled dispatch, where nobody is named as woken yet.

@@ -180,12 +180,7 @@ fn print_report(rt: &LibcRuntime, report: &Report) -> io::Result<()> {
 
 // Carries out one call, and prints it with its answer and its report.
 fn play(rt: &LibcRuntime, book: &mut Book<TwoUses, Newest>, call: Call) -> io::Result<()> {
-    let mut report = Report {
-        recalled: 0,
-        woken: 0,
-        dispatches: [255; 64],
-        sections: [65535; 64],
-    };
+    let mut report = Report::empty();
     let answer = book.carry_out(call, &mut report);
     print_call(rt, call)?;
     print_answer(rt, answer)?;

@@ -1,5 +1,4 @@
 // Cycles of waits through all 64 dispatches.
-use crate::setting::blank;
 use crate::setting::new_book;
 use crate::setting::open_all;
 use book::answers::Answer;
@@ -45,9 +44,9 @@ fn want_next(book: &mut Book<TwoUses, Newest>, report: &mut Report) -> Result<()
 }
 
 #[test]
-fn the_newest_of_a_ring_of_64_is_recalled() -> Result<(), Fail> {
+fn the_newest_of_a_cycle_of_64_is_recalled() -> Result<(), Fail> {
     let mut book = new_book(Detection::Continuous);
-    let mut report = blank();
+    let mut report = Report::empty();
     check_eq(open_all(&mut book, 64, &mut report), Ok(Answer::Ok))?;
     move_on_own(&mut book, &mut report)?;
     want_next(&mut book, &mut report)?;
@@ -90,7 +89,7 @@ fn check_63_recalls(report: &Report) -> Result<(), Fail> {
 #[test]
 fn one_sweep_recalls_63() -> Result<(), Fail> {
     let mut book = new_book(Detection::Periodic);
-    let mut report = blank();
+    let mut report = Report::empty();
     check_eq(open_all(&mut book, 64, &mut report), Ok(Answer::Ok))?;
     claim_seven(&mut book, LOOK, Answer::Granted, &mut report)?;
     claim_seven(&mut book, MOVE, Answer::Waits, &mut report)?;

@@ -1,5 +1,4 @@
 // The three questions, on a small book.
-use crate::setting::blank;
 use crate::setting::new_book;
 use crate::setting::open_all;
 use book::answers::Answer;
@@ -15,6 +14,7 @@ use book::questions::StandingPartialEq;
 use marks::Marks;
 use marks::MarksDebug;
 use marks::MarksPartialEq;
+use model::report::Report;
 use model::state::Condition;
 use model::state::Detection;
 use orders::single::Newest;
@@ -28,7 +28,7 @@ use uses::two_uses::TwoUsesTable;
 // Dispatches 1 and 2 look at section 10, dispatch 0 waits to move there; dispatch 3 is free.
 fn small_book() -> Result<Book<TwoUses, Newest>, Fail> {
     let mut book = new_book(Detection::Continuous);
-    let mut report = blank();
+    let mut report = Report::empty();
     check_eq(open_all(&mut book, 3, &mut report), Ok(Answer::Ok))?;
     check_eq(book.claim(1, 10, LOOK, &mut report), Ok(Answer::Granted))?;
     check_eq(book.claim(2, 10, LOOK, &mut report), Ok(Answer::Granted))?;

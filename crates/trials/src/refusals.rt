@@ -1,5 +1,4 @@
 // Each refusal, but that for want of room.
-use crate::setting::blank;
 use crate::setting::new_book;
 use crate::setting::open_all;
 use book::answers::Answer;
@@ -21,7 +20,7 @@ use uses::two_uses::TwoUsesTable;
 #[test]
 fn a_number_that_is_too_high_is_refused() -> Result<(), Fail> {
     let mut book = new_book(Detection::Continuous);
-    let mut report = blank();
+    let mut report = Report::empty();
     check_eq(book.open(64, 5, &mut report), Err(Refusal::NumberTooHigh))?;
     check_eq(
         book.open(63, 1001, &mut report),
@@ -39,7 +38,7 @@ fn a_number_that_is_too_high_is_refused() -> Result<(), Fail> {
 #[test]
 fn an_open_and_a_free_dispatch_are_refused() -> Result<(), Fail> {
     let mut book = new_book(Detection::Continuous);
-    let mut report = blank();
+    let mut report = Report::empty();
     check_eq(book.open(1, 5, &mut report), Ok(Answer::Ok))?;
     check_eq(book.open(1, 5, &mut report), Err(Refusal::IsOpen))?;
     check_eq(book.claim(2, 10, MOVE, &mut report), Err(Refusal::IsFree))?;
@@ -59,7 +58,7 @@ fn let_one_wait(book: &mut Book<TwoUses, Newest>, report: &mut Report) -> Result
 #[test]
 fn a_waiting_dispatch_is_refused() -> Result<(), Fail> {
     let mut book = new_book(Detection::Continuous);
-    let mut report = blank();
+    let mut report = Report::empty();
     let_one_wait(&mut book, &mut report)?;
     check_eq(
         book.claim(1, 12, MOVE, &mut report),
@@ -72,7 +71,7 @@ fn a_waiting_dispatch_is_refused() -> Result<(), Fail> {
 #[test]
 fn a_recalled_dispatch_is_refused() -> Result<(), Fail> {
     let mut book = new_book(Detection::Continuous);
-    let mut report = blank();
+    let mut report = Report::empty();
     let_one_wait(&mut book, &mut report)?;
     check_eq(book.claim(2, 10, MOVE, &mut report), Ok(Answer::Recalled))?;
     check_eq(book.open(2, 5, &mut report), Err(Refusal::IsRecalled))?;

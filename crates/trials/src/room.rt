@@ -1,5 +1,4 @@
 // A book with all its claims.
-use crate::setting::blank;
 use crate::setting::new_book;
 use crate::setting::open_all;
 use book::answers::Answer;
@@ -48,7 +47,7 @@ fn fill(book: &mut Book<TwoUses, Newest>, report: &mut Report) -> Result<(), Fai
 #[test]
 fn the_513th_claim_is_refused() -> Result<(), Fail> {
     let mut book = new_book(Detection::Continuous);
-    let mut report = blank();
+    let mut report = Report::empty();
     fill(&mut book, &mut report)?;
     // free, held by another, and covered
     check_eq(book.claim(0, 600, LOOK, &mut report), Err(Refusal::NoRoom))?;
@@ -59,7 +58,7 @@ fn the_513th_claim_is_refused() -> Result<(), Fail> {
 #[test]
 fn a_close_makes_room_for_its_eight() -> Result<(), Fail> {
     let mut book = new_book(Detection::Continuous);
-    let mut report = blank();
+    let mut report = Report::empty();
     fill(&mut book, &mut report)?;
     check_eq(book.close(63, &mut report), Ok(Answer::Ok))?;
     claim_eight(&mut book, 0, 504, &mut report)?;

@@ -9,16 +9,6 @@ use orders::single::NewestOrder;
 use uses::two_uses::TwoUses;
 use uses::two_uses::TwoUsesTable;
 
-// A report that names nobody.
-pub fn blank() -> Report {
-    Report {
-        recalled: 0,
-        woken: 0,
-        dispatches: [255; 64],
-        sections: [65535; 64],
-    }
-}
-
 // A book of two uses that recalls the newest.
 pub fn new_book(detection: Detection) -> Book<TwoUses, Newest> {
     Book::new(TwoUses, Newest, detection)
