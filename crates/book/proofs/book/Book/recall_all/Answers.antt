@@ -1,4 +1,4 @@
-use Prim.Native.Nat.{ℕ, _+_}
+use Prim.Native.Nat.{ℕ, _+_, _<_, _≤_}
 use mathlib.Core.List.{List, [], _∷_, _++_}
 use mathlib.Core.Path.{_≡_, refl, sym, ap, subst, _∙_}
 use native.Mathlib.Omega.{arith}
@@ -23,6 +23,7 @@ loop-turn-holds g c =
 
 pub returns-in-rest : need.returns-in-rest
 returns-in-rest g c =
+    let low : c .loop-turn .-turn < 64 = omega (arith, c .loop-turn-test .taken) in
     let b₀ = c .args .self .now in
     let b = c .loop-turn .self in
     let u₀ = g .T·UseTable .meaning (b₀ .table) in
@@ -33,7 +34,7 @@ returns-in-rest g c =
     let none = victim-same (g .T·UseTable .meaning (b .table)) u₀ (g .O·RecallOrder .meaning (b .order)) o₀ (state b) None same-u same-o (sym (c .in-rest .is) ∙ c .victim .ensures) in
     let end =
     came-early u₀ o₀ (g .O·RecallOrder·met .lawful (b₀ .order)) (state b₀) (state b) (c .loop-turn .-turn) (c .loop-turn .report)
-    (steady-grounded (state b₀) w) (steady-few (state b₀) w) (c .loop-turn-test .taken) (c .loop-turn .inv .2) none
+    (steady-grounded (state b₀) w) (steady-few (state b₀) w) low (c .loop-turn .inv .2) none
     in
     record { after = end .state; named = end .report; table = c .loop-turn .inv .0; order = c .loop-turn .inv .1 }
 
@@ -53,6 +54,7 @@ name-recalled-requires g c κs =
 
 pub loop-turn-again : need.loop-turn-again
 loop-turn-again g c =
+    let low : c .loop-turn .-turn < 64 = omega (arith, c .loop-turn-test .taken) in
     let b₀ = c .args .self .now in
     let b = c .loop-turn .self in
     let u₀ = g .T·UseTable .meaning (b₀ .table) in
@@ -68,7 +70,7 @@ loop-turn-again g c =
     λ rs is. c .name-recalled .ensures rs is ∙ ap (λ (n : Named). filled (rs ++ n ∷ []) []) who
     in
     let turned =
-    turned-more u₀ o₀ (state b₀) (state b) (c .loop-turn .-turn) (c .loop-turn .report) (c .name-recalled .last .report) d (c .loop-turn-test .taken) found
+    turned-more u₀ o₀ (state b₀) (state b) (c .loop-turn .-turn) (c .loop-turn .report) (c .name-recalled .last .report) d low found
     (c .loop-turn .inv .2) more
     in (
       c .recall .ensures .table ∙ c .loop-turn .inv .0,
@@ -78,6 +80,7 @@ loop-turn-again g c =
 
 pub returns : need.returns
 returns g c =
+    let high : 64 ≤ c .loop-turn .-turn = omega (arith, c .loop-turn-test .left) in
     let b₀ = c .args .self .now in
     let b = c .loop-turn .self in
     let u₀ = g .T·UseTable .meaning (b₀ .table) in
@@ -85,6 +88,6 @@ returns g c =
     let w = book-steady b₀ in
     let end =
     came-late u₀ o₀ (g .O·RecallOrder·met .lawful (b₀ .order)) (state b₀) (state b) (c .loop-turn .-turn) (c .loop-turn .report)
-    (steady-grounded (state b₀) w) (steady-few (state b₀) w) (c .loop-turn-test .left) (c .loop-turn .inv .2)
+    (steady-grounded (state b₀) w) (steady-few (state b₀) w) high (c .loop-turn .inv .2)
     in
     record { after = end .state; named = end .report; table = c .loop-turn .inv .0; order = c .loop-turn .inv .1 }
