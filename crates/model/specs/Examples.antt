@@ -52,10 +52,11 @@ infixl 30 _at_
 abbrev pub _at_ : ℕ → ℕ → Named
 d at section = record { dispatch = d; section = section }
 
--- the uses of the two-use table
+-- a use of the two-use table
 abbrev pub look : ℕ
 look = 0
 
+-- the other use of the two-use table
 abbrev pub move : ℕ
 move = 1
 

@@ -10,6 +10,7 @@ use Rattle.model.specs.declared.state.Claim.{Claim}
 use Rattle.model.specs.declared.state.Detection.{Detection}
 use Rattle.model.specs.declared.state.Opened.{Opened}
 
+-- all that a book keeps
 pub record State : Type 0 where
   -- the open list: the open dispatches with their weights, in order of opening
   pub opened : List Opened

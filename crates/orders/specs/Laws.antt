@@ -7,4 +7,5 @@ use Rattle.orders.specs.declared.order.Summary.{Summary}
 pub record OrderLaws (no-later : Summary → Summary → Bool) : Type 0 where
   -- of any two, at least one goes no later than the other
   pub total : (a b : Summary) → (no-later a b || no-later b a) ≡ true
+  -- who goes no later than a second goes no later than whom the second goes no later than
   pub transitive : (a b c : Summary) → no-later a b ≡ true → no-later b c ≡ true → no-later a c ≡ true

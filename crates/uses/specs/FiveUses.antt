@@ -45,6 +45,7 @@ abbrev pub paired : ℕ → ℕ → List (ℕ × ℕ) → Bool
 paired a b [] = false
 paired a b (p ∷ ps) = ((eqb a (p .0) && eqb b (p .1)) || (eqb b (p .0) && eqb a (p .1))) || paired a b ps
 
+-- there are no other uses
 abbrev pub known : ℕ → Bool
 known a = listed a all-five
 
@@ -61,6 +62,7 @@ dominates a b (c ∷ cs) = (not (conflict c b) || conflict c a) && dominates a b
 abbrev pub cover : ℕ → ℕ → Bool
 cover a b = (known a && known b) && dominates a b all-five
 
+-- the meaning of the table
 abbrev pub five-uses : Relations
 five-uses = record { known = known; conflict = conflict; cover = cover }
 

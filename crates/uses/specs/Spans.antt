@@ -82,6 +82,7 @@ between r None t = false
 between r (Some s) None = false
 between r (Some s) (Some t) = r s t
 
+-- the meaning of the table
 abbrev pub spans : Relations
 spans = record {
   known = λ a. isSome (span-of a);
