@@ -1,12 +1,12 @@
 // The three questions.
-ghost use mathlib.Core.Bool.{cond};
+ghost use mathlib.Core.List.{[], _∷_};
 ghost use mathlib.Core.Path.{_≡_};
-ghost use Rattle.std.specs.declared.result.Result.the-variants.{Ok, Err};
 ghost use Rattle.marks.specs.Marks.{marked};
-ghost use Rattle.model.specs.Claims.{waiting-section};
 ghost use Rattle.model.specs.Questions.{condition as condition-of, waited-for as waited-for-by, holders as holders-of};
+ghost use Rattle.model.specs.Calls.{refusal, number-too-high, section-too-high};
 ghost use Rattle.book.specs.Asked.{condition-answered};
 ghost use Rattle.book.specs.Held.{state};
+ghost use Rattle.book.specs.Verdict.{Verdict};
 use crate::answers::Refusal;
 use crate::book::Book;
 use crate::checks::number;
@@ -50,23 +50,25 @@ impl<T: UseTable, O> Book<T, O> {
         })
     }
 
-    // The dispatches for which the dispatch waits; none, where the number is refused.
-    pub fn waited_for(&self, dispatch: u32) -> Marks
-        ensures { λ r. ⌜ marked r ≡ waited-for-by (T·UseTable .meaning (now (self .entry) .table)) (state (now (self .entry))) dispatch ⌝ }
+    // Marks the dispatches for which the dispatch waits. Refused by 1, and then all marks are off.
+    pub fn waited_for(&self, dispatch: u32, marks: &mut Marks) -> Result<(), Refusal>
+        ensures answered { λ r. ⌜ Verdict r (refusal (number-too-high dispatch ∷ [])) (λ _. Unit {0}) ⌝ }
+        ensures found { λ _. ⌜ marked (now (marks .exit)) ≡ waited-for-by (T·UseTable .meaning (now (self .entry) .table)) (state (now (self .entry))) dispatch ⌝ }
     {
-        match number(dispatch) {
-            Ok(number) => self.claims.waits_for(&self.table, number),
-            Err(_) => Marks::none(),
-        }
+        *marks = Marks::none();
+        let number = number(dispatch)?;
+        *marks = self.claims.waits_for(&self.table, number);
+        Ok(())
     }
 
-    // The dispatches with a held claim on the section; none, where the section is refused.
-    pub fn holders(&self, section: u32) -> Marks
-        ensures { λ r. ⌜ marked r ≡ holders-of (T·UseTable .meaning (now (self .entry) .table)) (state (now (self .entry))) section ⌝ }
+    // Marks the dispatches with a held claim on the section. Refused by 2, and then all marks are off.
+    pub fn holders(&self, section: u32, marks: &mut Marks) -> Result<(), Refusal>
+        ensures answered { λ r. ⌜ Verdict r (refusal (section-too-high section ∷ [])) (λ _. Unit {0}) ⌝ }
+        ensures found { λ _. ⌜ marked (now (marks .exit)) ≡ holders-of (T·UseTable .meaning (now (self .entry) .table)) (state (now (self .entry))) section ⌝ }
     {
-        match section_number(section) {
-            Ok(section) => self.claims.holders(&self.table, section),
-            Err(_) => Marks::none(),
-        }
+        *marks = Marks::none();
+        let section = section_number(section)?;
+        *marks = self.claims.holders(&self.table, section);
+        Ok(())
     }
 }

@@ -68,15 +68,23 @@ fn how_does_a_dispatch_stand() -> Result<(), Fail> {
 #[test]
 fn for_whom_does_a_dispatch_wait() -> Result<(), Fail> {
     let book = small_book()?;
-    check_eq(book.waited_for(0), one_and_two())?;
-    check_eq(book.waited_for(1), Marks::none())?;
-    check_eq(book.waited_for(64), Marks::none())
+    let mut marks = Marks::none();
+    check_eq(book.waited_for(1, &mut marks), Ok(()))?;
+    check_eq(marks, Marks::none())?;
+    check_eq(book.waited_for(0, &mut marks), Ok(()))?;
+    check_eq(marks, one_and_two())?;
+    check_eq(book.waited_for(64, &mut marks), Err(Refusal::NumberTooHigh))?;
+    check_eq(marks, Marks::none())
 }
 
 #[test]
 fn who_holds_a_section() -> Result<(), Fail> {
     let book = small_book()?;
-    check_eq(book.holders(10), one_and_two())?;
-    check_eq(book.holders(11), Marks::none())?;
-    check_eq(book.holders(1024), Marks::none())
+    let mut marks = Marks::none();
+    check_eq(book.holders(11, &mut marks), Ok(()))?;
+    check_eq(marks, Marks::none())?;
+    check_eq(book.holders(10, &mut marks), Ok(()))?;
+    check_eq(marks, one_and_two())?;
+    check_eq(book.holders(1024, &mut marks), Err(Refusal::SectionTooHigh))?;
+    check_eq(marks, Marks::none())
 }
