@@ -1,11 +1,10 @@
 -- What the book's tables keep: open numbers differ and are below 64, and every claim is of an open dispatch.
 use Rattle.std.proofs.Common.{◌≡◌, ℕ, ◌<◌, ◌≤◌, true, false, not, eqb, ltb, List, [], ◌∷◌, ◌++◌, length, get_or, ap, ◌∙◌, arith}
 use Rattle.std.specs.List.{list_all, AllByRecursion as All}
-use Rattle.std.specs.Map.Invariant.{is-distinct}
 use Rattle.std.proofs.lemmas.List.{length-map, length_push}
 use Rattle.std.proofs.lemmas.Bool.{and_parts, ltb-true, false≢true}
 use Rattle.std.proofs.lemmas.Bool.Decides.{nat_tests}
-use Rattle.model.specs.Search.{member}
+use Rattle.model.specs.Search.{member, is_distinct}
 use Rattle.model.specs.Claims.{of, without}
 use Rattle.model.specs.State.{State, numbers, closed}
 use Rattle.model.specs.declared.state.Claim.{Claim}
@@ -19,14 +18,14 @@ use Rattle.model.proofs.Recalls.{Grounded}
 
 -- the tables' facts, of an open list and a claim list
 pub record Steady (es : List Opened) (cs : List Claim) : Type 0 where
-  pub distinct : is-distinct eqb (numbers es) ≡ true
+  pub distinct : is_distinct eqb (numbers es) ≡ true
   pub small : list_all (λ e. ltb e.dispatch 64) es ≡ true
   pub grounded : list_all (λ c. member c.dispatch (numbers es)) cs ≡ true
 
 -- they are facts of the lists alone
 pub steady_same : (es es' : List Opened) (cs cs' : List Claim) → es' ≡ es → cs' ≡ cs → Steady es cs → Steady es' cs'
 steady_same es es' cs cs' same_es same_cs w = record {
-  distinct = ap (λ xs. is-distinct eqb (numbers xs)) same_es ∙ w.distinct;
+  distinct = ap (λ xs. is_distinct eqb (numbers xs)) same_es ∙ w.distinct;
   small = ap (λ xs. list_all (λ e. ltb e.dispatch 64) xs) same_es ∙ w.small;
   grounded =
       ap (λ xs. list_all (λ c. member c.dispatch (numbers xs)) cs') same_es

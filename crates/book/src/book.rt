@@ -1,10 +1,9 @@
 // The book's memory.
 ghost use Rattle.std.specs.Prelude.{◌≡◌, true, nat_eq, nat_lt};
 ghost use Rattle.std.specs.List.{list_all};
-ghost use Rattle.std.specs.Map.Invariant.{is-distinct};
 ghost use Rattle.lists.specs.Entries.{entries};
 ghost use Rattle.claims.specs.Claims.{claims as claim-list};
-ghost use Rattle.model.specs.Search.{member};
+ghost use Rattle.model.specs.Search.{member, is_distinct};
 ghost use Rattle.model.specs.State.{numbers};
 
 use claims::claim_table::ClaimTable;
@@ -22,7 +21,7 @@ pub struct Book<T, O> {
     pub(crate) recalled: Marks,
     pub(crate) claims: ClaimTable,
     // open numbers differ
-    ghost distinct: { is-distinct nat_eq (numbers (entries opened)) ≡ true },
+    ghost distinct: { is_distinct nat_eq (numbers (entries opened)) ≡ true },
     // open numbers are below 64
     ghost small: { list_all (λ e. nat_lt e.dispatch 64) (entries opened) ≡ true },
     // every claim is of an open dispatch

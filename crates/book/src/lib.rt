@@ -1,3 +1,5 @@
+#![tactic(auto)]
+
 // The dispatch book (a lock manager): six calls and three questions, in fixed memory.
 pub mod answers;
 pub mod book;

@@ -1,3 +1,5 @@
+#![tactic(auto)]
+
 // A station's own program, as it runs in a cabinet by the track. It opens by ticket, so it cannot
 // forget a dispatch on any way out: the language refuses a program that lets a ticket go.
 use book::answers::{Answer, Refusal};

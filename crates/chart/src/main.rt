@@ -1,3 +1,5 @@
+#![tactic(auto)]
+
 // Prints the use tables' charts, to hang up beside a console.
 ghost use Rattle.std.specs.Prelude.{◌≡◌};
 ghost use Rattle.chart.specs.Asked.{asked};

@@ -1,3 +1,5 @@
+#![tactic(auto)]
+
 // A table, an order and a detection that are chosen at run time, by their names.
 pub mod any_order;
 pub mod any_table;

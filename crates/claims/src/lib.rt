@@ -1,3 +1,5 @@
+#![tactic(auto)]
+
 // The claim list of a book, in fixed memory.
 pub mod claim_table;
 pub mod methods;

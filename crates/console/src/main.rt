@@ -1,3 +1,5 @@
+#![tactic(auto)]
+
 // The console of a line: calls on standard input, answers on standard output. The book is
 // continuous, has the two uses look and move, and recalls the newest.
 use model::state::Detection;

@@ -1,3 +1,5 @@
+#![tactic(auto)]
+
 // Who is on a cycle of a relation on the numbers below 64, given as a row of marks for each number.
 ghost use Rattle.std.specs.Prelude.{◌≡◌, ℕ, ◌<◌, ◌&&◌, ◌||◌, Decides};
 ghost use Rattle.marks.specs.Marks.{marked};

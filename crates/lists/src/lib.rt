@@ -1,3 +1,5 @@
+#![tactic(auto)]
+
 // Lists in fixed memory.
 pub mod fixed_list;
 pub mod methods;

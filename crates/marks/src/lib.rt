@@ -1,3 +1,5 @@
+#![tactic(auto)]
+
 // A set of 64 marks in one machine word. The contracts speak of membership alone.
 ghost use Rattle.std.specs.Prelude.{◌≡◌, ℕ, ◌<◌, true, false, not, ◌&&◌, ◌||◌, ◌==◌};
 ghost use Rattle.marks.specs.Marks.{marked};

@@ -1,13 +1,12 @@
 -- The first of a set is the only one, and reports fit.
 use Rattle.std.proofs.Common.{◌≡◌, ℕ, ◌+◌, ◌≤◌, Bool, true, false, not, ◌&&◌, eqb, ◌⊎◌, List, [], ◌∷◌, length, Some, None, filter, Option, sym, refl, ap, ◌∙◌, inl, inr, ⊎_elim, arith}
 use Rattle.std.specs.List.{list_all}
-use Rattle.std.specs.Map.Invariant.{is-distinct}
 use Rattle.std.proofs.lemmas.List.{length-map}
 use Rattle.std.proofs.lemmas.Bool.{and_parts, and_from, or_left, or_right, eq-eqb, not-true, not_from_false, cond_both, false≢true}
 use Rattle.std.proofs.lemmas.Bool.Decides.{nat_tests}
 use Rattle.uses.specs.Relations.{Relations}
 use Rattle.orders.specs.Laws.{OrderLaws}
-use Rattle.model.specs.Search.{member, last}
+use Rattle.model.specs.Search.{member, last, is_distinct}
 use Rattle.model.specs.State.{State, numbers}
 use Rattle.model.specs.Recalling.{Order, Named, named, standing, strictly_before, unbeaten, first}
 use Rattle.model.specs.Claims.{dispatch_waits}
@@ -58,10 +57,10 @@ newest_alone : (q : ℕ → Bool) (x : Opened) (es : List Opened) (d e : ℕ) �
 newest_alone q x es d e none is m t = let out = kept_none q e (numbers es) none t in grind (arith, nat_tests, is, m, out)
 
 -- the last of those who pass is open, and has the greatest standing of those who pass
-last_newest : (q : ℕ → Bool) (es : List Opened) (d e : ℕ) → is-distinct eqb (numbers es) ≡ true → last (filter q (numbers es)) ≡ Some d → (member d (numbers es) ≡ true) × Newest q es d e
+last_newest : (q : ℕ → Bool) (es : List Opened) (d e : ℕ) → is_distinct eqb (numbers es) ≡ true → last (filter q (numbers es)) ≡ Some d → (member d (numbers es) ≡ true) × Newest q es d e
 last_newest q [] d e h k = absurd (clash (cc))
 last_newest q (x ∷ xs) d e h k =
-    let parts = and_parts (list_all (λ y. not (eqb x.dispatch y)) (numbers xs)) (is-distinct eqb (numbers xs)) h in
+    let parts = and_parts (list_all (λ y. not (eqb x.dispatch y)) (numbers xs)) (is_distinct eqb (numbers xs)) h in
     let behind : last (filter q (numbers xs)) ≡ Some d → (member d (numbers (x ∷ xs)) ≡ true) × Newest q (x ∷ xs) d e =
     λ l. let rest = last_newest q xs d e parts.1 l in (or_right (eqb x.dispatch d) (member d (numbers xs)) rest.0, newest_behind q x xs d e parts.0 rest.0 rest.1)
     in

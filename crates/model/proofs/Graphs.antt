@@ -1,11 +1,10 @@
 -- Graphs: the closure of a relation is what it leads to, and chains without a cycle are short.
 use Rattle.std.proofs.Common.{◌≡◌, ℕ, zero, suc, ◌<◌, ◌≤◌, Bool, true, false, cond, not, ◌&&◌, eqb, List, [], ◌∷◌, length, Decides, sym, refl, subst, inl, inr, arith}
 use Rattle.std.specs.List.{list_all, AllByRecursion as All}
-use Rattle.std.specs.Map.Invariant.{is-distinct}
 use Rattle.std.proofs.ByRecursion.{All-weaker, Decides-by_and}
 use Rattle.std.proofs.lemmas.Bool.{false≢true, not-true, and_parts, and_from, or_cases, or_left, eqb-true, cond_both}
 use Rattle.std.proofs.lemmas.Bool.Decides.{nat_tests, Decides-eqb, Decides-not}
-use Rattle.model.specs.Search.{member}
+use Rattle.model.specs.Search.{member, is_distinct}
 use Rattle.model.specs.Graph.{Leads, OnCycle, Chain, end_of, by_way_of, closure, on_cycle}
 use Rattle.model.specs.Graph.Leads.{one, more}
 
@@ -113,10 +112,10 @@ others_stay x (z ∷ zs) ys d h =
     (without_keeps x z ys (not-true (eqb x z) p.0) h.0, others_stay x zs ys p.1 h.1)
 
 -- distinct numbers that are all members of a list are no more than its places
-pub pigeonhole : (xs ys : List ℕ) → is-distinct eqb xs ≡ true → All (λ x. member x ys ≡ true) xs → length xs ≤ length ys
+pub pigeonhole : (xs ys : List ℕ) → is_distinct eqb xs ≡ true → All (λ x. member x ys ≡ true) xs → length xs ≤ length ys
 pigeonhole [] ys d h = omega arith
 pigeonhole (x ∷ xs) ys d h =
-    let p = and_parts (list_all (λ y. not (eqb x y)) xs) (is-distinct eqb xs) d in
+    let p = and_parts (list_all (λ y. not (eqb x y)) xs) (is_distinct eqb xs) d in
     omega (arith, pigeonhole xs (without x ys) p.1 (others_stay x xs ys p.0 h.1), without_shorter x ys h.0)
 
 -- the numbers below n
@@ -135,7 +134,7 @@ below_member zero x h = grind arith
 below_member (suc n) x h = grind (arith, nat_tests, below_member n x)
 
 -- distinct numbers below n are at most n
-pub at_most : (n : ℕ) (xs : List ℕ) → is-distinct eqb xs ≡ true → All (λ x. x < n) xs → length xs ≤ n
+pub at_most : (n : ℕ) (xs : List ℕ) → is_distinct eqb xs ≡ true → All (λ x. x < n) xs → length xs ≤ n
 at_most n xs d h =
     rw length_below at (pigeonhole xs (below n) d (All-weaker (λ x. x < n) (λ x. member x (below n) ≡ true) (below_member n) xs h))
 
@@ -160,10 +159,10 @@ differs_from_all a bs =
     Decides-by_and (λ b. not (eqb a b)) (λ b. a ≡ b → ⊥) (list_all (λ b. not (eqb a b))) (λ b. Decides-not (eqb a b) (Decides-eqb a b)) refl (λ _ _. refl) bs
 
 -- without a cycle the numbers of a chain are distinct
-pub chain_distinct : (r : ℕ → ℕ → Bool) → ((a : ℕ) → OnCycle r a → ⊥) → (a : ℕ) (bs : List ℕ) → Chain r a bs → is-distinct eqb (a ∷ bs) ≡ true
+pub chain_distinct : (r : ℕ → ℕ → Bool) → ((a : ℕ) → OnCycle r a → ⊥) → (a : ℕ) (bs : List ℕ) → Chain r a bs → is_distinct eqb (a ∷ bs) ≡ true
 chain_distinct r acyclic a [] c = refl
 chain_distinct r acyclic a (b ∷ bs) c =
-    and_from (list_all (λ y. not (eqb a y)) (b ∷ bs)) (is-distinct eqb (b ∷ bs))
+    and_from (list_all (λ y. not (eqb a y)) (b ∷ bs)) (is_distinct eqb (b ∷ bs))
     ((differs_from_all a (b ∷ bs)).1 (All-weaker (Leads r a) (λ y. a ≡ y → ⊥) (λ y l e. acyclic a (subst (Leads r a) (sym e) l)) (b ∷ bs) (chain_leads r a (b ∷ bs) c)))
     (chain_distinct r acyclic b bs c.1)
 

@@ -1,10 +1,9 @@
 -- The open list and its numbers.
 use Rattle.std.proofs.Common.{◌≡◌, ℕ, suc, ◌≤◌, Bool, true, false, not, ◌&&◌, ◌||◌, eqb, List, [], ◌∷◌, ◌++◌, length, filter, refl, ⊎_elim, arith}
 use Rattle.std.specs.List.{list_all}
-use Rattle.std.specs.Map.Invariant.{is-distinct}
 use Rattle.std.proofs.lemmas.Bool.{and_parts, and_from, or_cases, or_left, or_right, eq-eqb, false≢true}
 use Rattle.std.proofs.lemmas.Bool.Decides.{nat_tests}
-use Rattle.model.specs.Search.{any, member}
+use Rattle.model.specs.Search.{any, member, is_distinct}
 use Rattle.model.specs.State.{numbers, closed}
 use Rattle.model.specs.declared.state.Opened.{Opened}
 
@@ -75,7 +74,7 @@ differs_closed x d [] h = refl
 differs_closed x d (e ∷ es) h = let rest = differs_closed x d es in grind (arith, nat_tests, rest)
 
 -- open numbers still differ once one is taken out
-pub distinct_closed : (x : ℕ) (es : List Opened) → is-distinct eqb (numbers es) ≡ true → is-distinct eqb (numbers (closed x es)) ≡ true
+pub distinct_closed : (x : ℕ) (es : List Opened) → is_distinct eqb (numbers es) ≡ true → is_distinct eqb (numbers (closed x es)) ≡ true
 distinct_closed x [] h = refl
 distinct_closed x (e ∷ es) h =
     let rest = distinct_closed x es in let others = differs_closed x e.dispatch es in grind (arith, nat_tests, rest, others)
@@ -85,7 +84,7 @@ differs_push e d [] h k = grind (arith, nat_tests)
 differs_push e d (f ∷ es) h k = let rest = differs_push e d es in grind (arith, nat_tests, rest)
 
 -- open numbers differ when one joins that was not open
-pub distinct_push : (e : Opened) (es : List Opened) → is-distinct eqb (numbers es) ≡ true → member e.dispatch (numbers es) ≡ false → is-distinct eqb (numbers (es ++ e ∷ [])) ≡ true
+pub distinct_push : (e : Opened) (es : List Opened) → is_distinct eqb (numbers es) ≡ true → member e.dispatch (numbers es) ≡ false → is_distinct eqb (numbers (es ++ e ∷ [])) ≡ true
 distinct_push e [] h k = refl
 distinct_push e (f ∷ es) h k =
     let rest = distinct_push e es in let others = differs_push e f.dispatch es in grind (arith, nat_tests, rest, others)

@@ -1,8 +1,8 @@
 -- What holds of the state at every moment of every run. `u` is the meaning of the use table.
 use Rattle.std.specs.Prelude.{◌≡◌, ℕ, ◌<◌, ◌≤◌, Bool, true, false, ◌&&◌, length, nat_eq, nat_le, nat_lt}
 use Rattle.std.specs.List.{list_all}
-use Rattle.std.specs.Map.Invariant.{is-distinct}
 use Rattle.uses.specs.Relations.{Relations}
+use Rattle.model.specs.Search.{is_distinct}
 use Rattle.model.specs.Graph.{OnCycle}
 use Rattle.model.specs.Claims.{waits_for, waiting_claims}
 use Rattle.model.specs.State.{State, numbers, is_open}
@@ -21,7 +21,7 @@ claim_in_range u s c = is_open s c.dispatch && (nat_le c.section 1023 && u.known
 -- what every call keeps, and every recall within a call
 pub record WellFormed (u : Relations) (s : State) : Type 0 where
   -- open numbers differ
-  pub distinct : is-distinct nat_eq (numbers s.opened) ≡ true
+  pub distinct : is_distinct nat_eq (numbers s.opened) ≡ true
   -- open numbers are below 64, weights at most 1000
   pub entries : list_all entry_in_range s.opened ≡ true
   -- recalled numbers are below 64

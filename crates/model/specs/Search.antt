@@ -1,5 +1,6 @@
 -- Looking through a list.
-use Rattle.std.specs.Prelude.{ℕ, Bool, false, cond, ◌||◌, List, [], ◌∷◌, Some, None, Option, nat_eq}
+use Rattle.std.specs.Prelude.{ℕ, Bool, true, false, cond, not, ◌&&◌, ◌||◌, List, [], ◌∷◌, Some, None, Option, nat_eq}
+use Rattle.std.specs.List.{list_all}
 
 -- some element passes
 abbrev pub any : {X : Type 0} → (X → Bool) → List X → Bool
@@ -20,3 +21,8 @@ last (x ∷ (y ∷ ys)) = last (y ∷ ys)
 -- the number is in the list
 abbrev pub member : ℕ → List ℕ → Bool
 member n ns = any (λ m. nat_eq m n) ns
+
+-- no element is the same as a later one
+abbrev pub is_distinct : {X : Type 0} → (X → X → Bool) → List X → Bool
+is_distinct same [] = true
+is_distinct same (x ∷ xs) = list_all (λ y. not (same x y)) xs && is_distinct same xs

@@ -1,3 +1,5 @@
+#![tactic(auto)]
+
 // The book's abstract state, its calls, its runs, and what holds of every run.
 //
 // The definitions are in specs/. The code here is the records that the state is made of, and

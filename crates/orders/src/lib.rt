@@ -1,3 +1,5 @@
+#![tactic(auto)]
+
 // Recall orders: which of several dispatches (transactions) is recalled first where their waits
 // form a cycle.
 pub mod order;

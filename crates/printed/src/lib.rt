@@ -1,3 +1,5 @@
+#![tactic(auto)]
+
 // Printed bytes in fixed memory.
 mod methods;
 pub mod place;

@@ -1,3 +1,5 @@
+#![tactic(auto)]
+
 // The console over a book that the arguments choose.
 mod arguments;
 

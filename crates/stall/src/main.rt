@@ -1,3 +1,5 @@
+#![tactic(auto)]
+
 // Plays the story that the book was made for: two stations that each want the other's dock.
 use book::answers::{Answer, Refusal};
 use book::book::Book;

@@ -1,3 +1,5 @@
+#![tactic(auto)]
+
 // What a person would try on tickets.
 #[cfg(test)]
 mod handing_in;

@@ -1,3 +1,5 @@
+#![tactic(auto)]
+
 // A console over a book: an input in pieces, and its answers in printed bytes.
 mod answering;
 pub mod console;

@@ -1,3 +1,5 @@
+#![tactic(auto)]
+
 // What a person would try on the book.
 #[cfg(test)]
 mod cycles_of_waits;

@@ -1,3 +1,5 @@
+#![tactic(auto)]
+
 pub mod five_uses;
 pub mod spans;
 pub mod table;

@@ -13,7 +13,7 @@ returns t c =
     elim c.if-number-ge10.branch [
       | then-number-ge10 w ↦
           behind_then before (text c.if-number-ge10.self) (text c.put.new.self) (decimal (n / 10)) digit (decimal n)
-          (ap text w.self-is ∙ w.put-number.ensures) c.put.ensures (sym (decimal_step n (omega arith) (omega arith)))
+          (ap text w.self-is ∙ w.put_number.ensures) c.put.ensures (sym (decimal_step n (omega arith) (omega arith)))
       | else-number-ge10 w ↦
           let same : n % 10 ≡ n = omega arith in
           c.put.ensures

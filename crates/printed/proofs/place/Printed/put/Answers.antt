@@ -3,10 +3,14 @@ use Rattle.std.proofs.lemmas.List.{take_more_set}
 use Rattle.printed.proofs.Behind.{behind_room, behind_full, blank_more}
 use Rattle.printed.proofs.place.Printed.put.Goals as goal
 
-pub invariant-of-self : goal.invariant-of-self
-invariant-of-self c =
+pub invariant_of-self : goal.invariant_of-self
+invariant_of-self c =
     let s = c.args.self.now in
-    (length-set s.bytes s.count c.args.byte ∙ s.long, (omega arith, (blank_more s.bytes s.count c.args.byte s.long (omega arith) s.blank, tt)))
+    record {
+      long = length-set s.bytes s.count c.args.byte ∙ s.long;
+      fits = omega arith;
+      blank = blank_more s.bytes s.count c.args.byte s.long (omega arith) s.blank;
+    }
 
 pub returns-then-self-lt-ROOM : goal.returns-then-self-lt-ROOM
 returns-then-self-lt-ROOM c =
