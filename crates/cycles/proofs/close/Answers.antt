@@ -7,4 +7,4 @@ loop-k-init c = none_yet (relation c.args.rows.now)
 
 pub loop-k-preserved : goal.loop-k-preserved
 loop-k-preserved c =
-    one_more c.loop-k.k (relation c.args.rows.now) (relation c.loop-k.rows) (relation c.add-steps-by.new.rows) c.loop-k.invariant c.add-steps-by.ensures
+    one_more c.loop-k.k (relation c.args.rows.now) (relation c.loop-k.rows) (relation c.add_steps_by.new.rows) c.loop-k.invariant c.add_steps_by.ensures

@@ -3,4 +3,4 @@ use Rattle.cycles.proofs.Rows.{all_collected}
 use Rattle.cycles.proofs.own_marks.Goals as goal
 
 pub returns : goal.returns
-returns c = all_collected c.args.rows.now c.loop-a.a c.loop-a.own_val (omega arith) c.loop-a.invariant
+returns c = all_collected c.args.rows.now c.loop-a.a c.loop-a.own (omega arith) c.loop-a.invariant

@@ -4,5 +4,5 @@ use Rattle.lists.specs.Entries.{entries}
 use Rattle.claims.proofs.Small.{all_pass_push}
 use Rattle.claims.proofs.claim_table.ClaimTable.enter.Goals as goal
 
-pub invariant-of-self : goal.invariant-of-self
-invariant-of-self c = (simp c.push.ensures (all_pass_push (λ b. ltb b.dispatch 64) (entries c.args.self.now.list) _ c.args.self.now.small (lt-ltb _ _ c.requires.small)), tt)
+pub invariant_of-self : goal.invariant_of-self
+invariant_of-self c = record { small = simp c.push.ensures (all_pass_push (λ b. ltb b.dispatch 64) (entries c.args.self.now.list) _ c.args.self.now.small (lt-ltb _ _ c.requires.small)) }
