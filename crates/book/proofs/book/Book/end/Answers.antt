@@ -8,11 +8,11 @@ pub returns : goal.returns
 returns g c =
     let b = c.args.self.now in
     let u = g.T.UseTable.meaning b.table in
-    let u' = g.T.UseTable.meaning c.take-out.new.self.table in
-    let same = ap g.T.UseTable.meaning c.take-out.ensures.table in
+    let u' = g.T.UseTable.meaning c.take_out.new.self.table in
+    let same = ap g.T.UseTable.meaning c.take_out.ensures.table in
     record {
-      after = c.take-out.ensures.after;
-      named = woken_at u u' (state b) (state c.take-out.new.self) (taken_out c.args.dispatch (state b)) [] c.args.report.now c.name-all-woken.new.report c.waiting-sections-before.result same c.take-out.ensures.after c.waiting-sections-before.ensures c.name-all-woken.ensures c.requires;
-      table = c.take-out.ensures.table;
-      order = c.take-out.ensures.order;
+      after = c.take_out.ensures.after;
+      named = woken_at u u' (state b) (state c.take_out.new.self) (taken_out c.args.dispatch (state b)) [] c.args.report.now c.name_all_woken.new.report c.waiting_sections-before.result same c.take_out.ensures.after c.waiting_sections-before.ensures c.name_all_woken.ensures c.requires;
+      table = c.take_out.ensures.table;
+      order = c.take_out.ensures.order;
     }

@@ -9,11 +9,11 @@ enter-requires g c =
     let b = c.args.self.now in
     record { small = steady_below c.args.claim.dispatch (entries b.opened) b.small c.requires.here; room = c.requires.room }
 
-pub invariant-of-self : goal.invariant-of-self
-invariant-of-self g c =
+pub invariant_of-self : goal.invariant_of-self
+invariant_of-self g c =
     let b = c.args.self.now in
     let v =
     steady_same (entries b.opened) (entries b.opened) (claims b.claims ++ c.args.claim ∷ []) (claims c.enter.new.self) refl c.enter.ensures
     (steady_entered (entries b.opened) (claims b.claims) c.args.claim c.requires.here (book_steady b))
     in
-    (v.distinct, (v.small, (v.grounded, tt)))
+    record { distinct = v.distinct; small = v.small; grounded = v.grounded }

@@ -16,11 +16,11 @@ returns-in-Continuous g c =
     let o = g.O.RecallOrder.meaning b.order in
     let t = entered c.args.claim (state b) in
     let is = sym c.in-Continuous.is in
-    let does = c.enter-and-look.ensures in
+    let does = c.enter_and_look.ensures in
     record {
-      answer = subst (λ (x : Detection). said (Ok c.enter-and-look.result) ≡ claim_answer u c.args.claim.dispatch (after_entry u o x t)) is does.answer;
-      after = subst (λ (x : Detection). state c.enter-and-look.new.self ≡ (after_entry u o x t).state) is does.after;
-      named = subst (λ (x : Detection). c.enter-and-look.new.report ≡ filled (after_entry u o x t).recalls (woken u (state b) (after_entry u o x t).state)) is does.named;
+      answer = subst (λ (x : Detection). said (Ok c.enter_and_look.result) ≡ claim_answer u c.args.claim.dispatch (after_entry u o x t)) is does.answer;
+      after = subst (λ (x : Detection). state c.enter_and_look.new.self ≡ (after_entry u o x t).state) is does.after;
+      named = subst (λ (x : Detection). c.enter_and_look.new.report ≡ filled (after_entry u o x t).recalls (woken u (state b) (after_entry u o x t).state)) is does.named;
       table = does.table;
       order = does.order;
     }

@@ -12,8 +12,8 @@ use Rattle.book.proofs.Victims.{none_opened}
 use Rattle.book.proofs.Waking.{woken_more}
 use Rattle.book.proofs.book.Book.name_all_woken.Goals as goal
 
-pub name-if-woken-requires : goal.name-if-woken-requires
-name-if-woken-requires g c =
+pub name_if_woken-requires : goal.name_if_woken-requires
+name_if_woken-requires g c =
     let b = c.args.self.now in
     let rows = c.rows-e-items.result.now in
     let long = ap (λ (es : List Opened). length es) c.rows-e-items.ensures in
@@ -28,9 +28,9 @@ loop-e-preserved g c =
     let b = c.args.self.now in
     let u = g.T.UseTable.meaning b.table in
     let rows = c.rows-e-items.result.now in (
-      c.name-if-woken.ensures.recalled ∙ c.loop-e.invariant.0,
-      omega (arith, c.name-if-woken.ensures.one, c.loop-e.invariant.1),
-      λ s rs sections is. c.name-if-woken.ensures.named s rs (map (named u s) (filter (λ d. dispatch_waits u s.claims d && not (dispatch_waits u (state b).claims d)) (numbers (take c.loop-e.e-index rows)))) sections (c.loop-e.invariant.2 s rs sections is) ∙ ap (filled rs) (woken_more (named u s) (λ d. dispatch_waits u s.claims d && not (dispatch_waits u (state b).claims d)) rows c.loop-e.e-index none_opened c.loop-e-test.true),
+      c.name_if_woken.ensures.recalled ∙ c.loop-e.invariant.0,
+      omega (arith, c.name_if_woken.ensures.one, c.loop-e.invariant.1),
+      λ s rs sections is. c.name_if_woken.ensures.named s rs (map (named u s) (filter (λ d. dispatch_waits u s.claims d && not (dispatch_waits u (state b).claims d)) (numbers (take c.loop-e.e-index rows)))) sections (c.loop-e.invariant.2 s rs sections is) ∙ ap (filled rs) (woken_more (named u s) (λ d. dispatch_waits u s.claims d && not (dispatch_waits u (state b).claims d)) rows c.loop-e.e-index none_opened c.loop-e-test.true),
     )
 
 pub returns : goal.returns

@@ -3,32 +3,32 @@ use Rattle.book.specs.Held.{state}
 use Rattle.book.proofs.Waking.{woken_ran, woken_waits, woken_now, none_from}
 use Rattle.book.proofs.book.Book.name_if_woken.Goals as goal
 
-pub returns-in-default : goal.returns-in-default
-returns-in-default g c =
+pub returns-in_default : goal.returns-in_default
+returns-in_default g c =
     let b = c.args.self.now in
     let d = c.args.dispatch in
     record {
-      named = λ s rs ws sections is. woken_ran (g.T.UseTable.meaning b.table) s (state b) d rs ws c.args.report.now (sym (sections d c.requires.small) ∙ none_from (get_or c.args.before.now d None) c.in-default.not-Some) is;
+      named = λ s rs ws sections is. woken_ran (g.T.UseTable.meaning b.table) s (state b) d rs ws c.args.report.now (sym (sections d c.requires.small) ∙ none_from (get_or c.args.before.now d None) c.in_default.not-Some) is;
       recalled = refl;
       one = omega arith;
     }
 
-pub returns-then-is-none : goal.returns-then-is-none
-returns-then-is-none g c =
+pub returns-then-is_none : goal.returns-then-is_none
+returns-then-is_none g c =
     let b = c.args.self.now in
     let d = c.args.dispatch in
     record {
-      named = λ s rs ws sections is. woken_now (g.T.UseTable.meaning b.table) s (state b) d rs ws c.name-woken.new.report c.in-Some.section (sym (sections d c.requires.small) ∙ c.in-Some.is) (sym (ap (λ (v : Option ℕ). is_some v) c.waiting_section.ensures) ∙ c.if-is-none.ensures) (c.name-woken.ensures.named rs ws is);
-      recalled = c.name-woken.ensures.recalled;
-      one = omega (arith, c.name-woken.ensures.woken);
+      named = λ s rs ws sections is. woken_now (g.T.UseTable.meaning b.table) s (state b) d rs ws c.name_woken.new.report c.in-Some.section (sym (sections d c.requires.small) ∙ c.in-Some.is) (sym (ap (λ (v : Option ℕ). is_some v) c.waiting_section.ensures) ∙ c.if-is_none.ensures) (c.name_woken.ensures.named rs ws is);
+      recalled = c.name_woken.ensures.recalled;
+      one = omega (arith, c.name_woken.ensures.woken);
     }
 
-pub returns-else-is-none : goal.returns-else-is-none
-returns-else-is-none g c =
+pub returns-else-is_none : goal.returns-else-is_none
+returns-else-is_none g c =
     let b = c.args.self.now in
     let d = c.args.dispatch in
     record {
-      named = λ s rs ws sections is. woken_waits (g.T.UseTable.meaning b.table) s (state b) d rs ws c.args.report.now (sym (ap (λ (v : Option ℕ). is_some v) c.waiting_section.ensures) ∙ c.if-is-none.ensures) is;
+      named = λ s rs ws sections is. woken_waits (g.T.UseTable.meaning b.table) s (state b) d rs ws c.args.report.now (sym (ap (λ (v : Option ℕ). is_some v) c.waiting_section.ensures) ∙ c.if-is_none.ensures) is;
       recalled = refl;
       one = omega arith;
     }

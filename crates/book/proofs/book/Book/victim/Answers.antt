@@ -9,7 +9,7 @@ pub returns : goal.returns
 returns g c =
     let b = c.args.self.now in
     let u = g.T.UseTable.meaning b.table in
-    c.first-of.ensures
+    c.first_of.ensures
     ∙ ap (first u (g.O.RecallOrder.meaning b.order) (state b))
-    (cycles_marked u (state b) (record { distinct = b.distinct; small = b.small; grounded = b.grounded }) c.on_cycles.result (relation c.waiting-rows.result)
-    c.waiting-rows.ensures c.on_cycles.ensures)
+    (cycles_marked u (state b) (record { distinct = b.distinct; small = b.small; grounded = b.grounded }) c.on_cycles.result (relation c.waiting_rows.result)
+    c.waiting_rows.ensures c.on_cycles.ensures)

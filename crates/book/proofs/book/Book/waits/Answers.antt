@@ -6,5 +6,5 @@ use Rattle.book.proofs.book.Book.waits.Goals as goal
 pub returns : goal.returns
 returns g c =
     let b = c.args.self.now in
-    c.is-some.ensures
+    c.is_some.ensures
     ∙ (ap (λ (v : Option ℕ). is_some v) c.waiting_section.ensures ∙ waiting_section_some (g.T.UseTable.meaning b.table) (claims b.claims) c.args.dispatch)
