@@ -8,19 +8,19 @@ use Rattle.lines.proofs.field.read_numbers.Goals as goal
 pub loop-i-init : goal.loop-i-init
 loop-i-init g c = (length-replicate g.row.N 0, came_start c.args.text.now)
 
-pub returns-in-err-taken : goal.returns-in-err-taken
-returns-in-err-taken g c =
-    let p = err_from_is_err_and c.from-residual.result c.from-residual.ensures.1 in
+pub returns-in_err-taken : goal.returns-in_err-taken
+returns-in_err-taken g c =
+    let p = err_from_is_err_and c.from_residual.result c.from_residual.ensures.1 in
     let inv = c.loop-i.invariant in
     let long = length-take-le c.loop-i.i c.loop-i.numbers (omega arith) in
-    rw (p.1, p.2) (came_wrong c.args.text.now _ _ _ g.row.N _ inv.1 (omega arith) c.in-err-taken.ensures)
+    rw (p.1, p.2) (came_wrong c.args.text.now _ _ _ g.row.N _ inv.1 (omega arith) c.in_err-taken.ensures)
 
 pub loop-i-preserved : goal.loop-i-preserved
 loop-i-preserved g c =
     let inv = c.loop-i.invariant in
-    let n = c.in-ok-taken.taken.number in
+    let n = c.in_ok-taken.taken.number in
     let inside : c.loop-i.i < length c.loop-i.numbers = omega arith in
-    let got = c.in-ok-taken.ensures in (
+    let got = c.in_ok-taken.ensures in (
       length-set c.loop-i.numbers c.loop-i.i n ∙ inv.0,
       rw (take_more_set c.loop-i.numbers c.loop-i.i n inside) (came_more c.args.text.now _ _ got.0 _ n _ _ inv.1 got.1 got.2),
     )

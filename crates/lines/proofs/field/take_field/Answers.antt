@@ -7,7 +7,7 @@ use Rattle.lines.proofs.field.take_field.Goals as goal
 pub returns-in-32 : goal.returns-in-32
 returns-in-32 c =
     let is = space_first c.args.text.now (omega arith) in
-    MatchResult-weaker c.take-number.result c.take-number.ensures (λ t h. (_, is, h)) (λ e h. no_field_digit _ _ c.args.place e is h.0 h.1)
+    MatchResult-weaker c.take_number.result c.take_number.ensures (λ t h. (_, is, h)) (λ e h. no_field_digit _ _ c.args.place e is h.0 h.1)
 
-pub returns-in-default : goal.returns-in-default
-returns-in-default c = search (rules, no_field_space, ltb-true, get_or_past)
+pub returns-in_default : goal.returns-in_default
+returns-in_default c = search (rules, no_field_space, ltb-true, get_or_past)

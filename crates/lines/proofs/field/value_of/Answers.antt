@@ -4,14 +4,14 @@ use Rattle.std.proofs.lemmas.Str.Parse.{digit_at}
 use Rattle.lines.proofs.Digit.{value_small, value_next}
 use Rattle.lines.proofs.field.value_of.Goals as goal
 
-pub overflow-mul-number : goal.overflow-mul-number
-overflow-mul-number c = let small = value_small c.args.digits.now c.loop-digit.digit-index c.requires.0 c.loop-digit-test.true c.requires.1 in omega (arith, c.loop-digit.invariant)
+pub overflow_mul-number : goal.overflow_mul-number
+overflow_mul-number c = let small = value_small c.args.digits.now c.loop-digit.digit-index c.requires.0 c.loop-digit-test.true c.requires.1 in omega (arith, c.loop-digit.invariant)
 
-pub overflow-sub-number : goal.overflow-sub-number
-overflow-sub-number c = (digit_at c.args.digits.now c.loop-digit.digit-index c.requires.0 c.loop-digit-test.true).0
+pub overflow_sub-number : goal.overflow_sub-number
+overflow_sub-number c = (digit_at c.args.digits.now c.loop-digit.digit-index c.requires.0 c.loop-digit-test.true).0
 
-pub overflow-add-number : goal.overflow-add-number
-overflow-add-number c =
+pub overflow_add-number : goal.overflow_add-number
+overflow_add-number c =
     let small = value_small c.args.digits.now c.loop-digit.digit-index c.requires.0 c.loop-digit-test.true c.requires.1 in
     let at = digit_at c.args.digits.now c.loop-digit.digit-index c.requires.0 c.loop-digit-test.true in
     omega (arith, c.loop-digit.invariant)

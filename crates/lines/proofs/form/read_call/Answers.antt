@@ -13,4 +13,4 @@ returns-in-empty c = search (rules, reads_empty, ltb-true)
 pub returns-in-len1-up : goal.returns-in-len1-up
 returns-in-len1-up c =
     let whole = first_rest c.args.line.now 0 (omega (arith, ltb-false)) in
-    subst (λ (l : List ℕ). Reading l c.read-fields.result) (sym whole) c.read-fields.ensures
+    subst (λ (l : List ℕ). Reading l c.read_fields.result) (sym whole) c.read_fields.ensures

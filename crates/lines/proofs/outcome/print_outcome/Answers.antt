@@ -23,16 +23,16 @@ returns c =
     let line = printed_line n (words (reply c.args.outcome)) in
     let recalls = named_lines n (codes "recall") (named_recalled r) in
     let wakes = named_lines n (codes "wake") (named_woken r) in
-    let recalled : text c.put-names.new.out ≡ put_behind (text c.put-reply.new.out) recalls =
-    c.put-names.ensures
-    ∙ ap (put_behind (text c.put-reply.new.out))
+    let recalled : text c.put_names.new.out ≡ put_behind (text c.put_reply.new.out) recalls =
+    c.put_names.ensures
+    ∙ ap (put_behind (text c.put_reply.new.out))
     (lines_same n (codes "recall") (recalled_places r.recalled m r.dispatches long c.min-recalled.ensures) (recalled_places r.recalled m r.sections long' c.min-recalled.ensures)) in
-    let woken : text c.put-names-2.new.out ≡ put_behind (text c.put-names.new.out) wakes =
-    c.put-names-2.ensures
-    ∙ ap (put_behind (text c.put-names.new.out))
+    let woken : text c.put_names-2.new.out ≡ put_behind (text c.put_names.new.out) wakes =
+    c.put_names-2.ensures
+    ∙ ap (put_behind (text c.put_names.new.out))
     (lines_same n (codes "wake") (woken_places r.recalled r.woken m end r.dispatches long c.min-recalled.ensures c.min-named.ensures) (woken_places r.recalled r.woken m end r.sections long' c.min-recalled.ensures c.min-named.ensures)) in
-    let all = also (put (text c.clear.new.self) line c.put-reply.ensures.puts)
-    (also (put (text c.put-reply.new.out) recalls recalled) (put (text c.put-names.new.out) wakes woken)) in
+    let all = also (put (text c.clear.new.self) line c.put_reply.ensures.puts)
+    (also (put (text c.put_reply.new.out) recalls recalled) (put (text c.put_names.new.out) wakes woken)) in
     all.is
     ∙ ap (λ (before : List ℕ). put_behind before (line ++ (recalls ++ wakes))) c.clear.ensures
-    ∙ take_all 2048 (line ++ (recalls ++ wakes)) (all_fits n line r (omega arith) c.put-reply.ensures.short long below below')
+    ∙ take_all 2048 (line ++ (recalls ++ wakes)) (all_fits n line r (omega arith) c.put_reply.ensures.short long below below')

@@ -15,10 +15,10 @@ pub returns-in-Line : goal.returns-in-Line
 returns-in-Line c =
     let f = c.args.fault in
     let is = said-by f.number f.place c.in-Line.is in
-    let all = also (put (text c.args.out.now) (codes "fault ") c.put-all.ensures)
-    (also (put (text c.put-all.new.self) (decimal f.number) c.put-number.ensures)
-    (also (put (text c.put-number.new.self) (codes " at ") c.put-all-in-Line.ensures)
-    (put (text c.put-all-in-Line.new.self) (decimal f.place) c.put-number-in-Line.ensures))) in
+    let all = also (put (text c.args.out.now) (codes "fault ") c.put_all.ensures)
+    (also (put (text c.put_all.new.self) (decimal f.number) c.put_number.ensures)
+    (also (put (text c.put_number.new.self) (codes " at ") c.put_all-in-Line.ensures)
+    (put (text c.put_all-in-Line.new.self) (decimal f.place) c.put_number-in-Line.ensures))) in
     record { puts = (regrouped all is).is; short = subst (λ (ws : List ℕ). length ws ≤ 16) is (fault_short f.number f.place (omega arith) (omega arith)) }
 
 pub returns-in-UseTable : goal.returns-in-UseTable
@@ -26,6 +26,6 @@ returns-in-UseTable c =
     let f = c.args.fault in
     let is : words (answer (is_refused f.number)) ≡ words (fault_reply f.layer f.number f.place) =
     ⊎_elim (said-by f.number f.place) (said-by f.number f.place) c.in-UseTable.is in
-    let all = also (put (text c.args.out.now) (codes "refused ") c.put-all-in-UseTable.ensures)
-    (put (text c.put-all-in-UseTable.new.self) (decimal f.number) c.put-number-in-UseTable.ensures) in
+    let all = also (put (text c.args.out.now) (codes "refused ") c.put_all-in-UseTable.ensures)
+    (put (text c.put_all-in-UseTable.new.self) (decimal f.number) c.put_number-in-UseTable.ensures) in
     record { puts = (regrouped all is).is; short = subst (λ (ws : List ℕ). length ws ≤ 16) is (refused_short f.number (omega arith)) }

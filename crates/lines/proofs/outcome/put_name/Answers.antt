@@ -15,13 +15,13 @@ returns c =
     let s = decimal c.args.section in
     let space = 32 ∷ [] in
     (regrouped
-    (also (put (text c.args.out.now) n c.put-number.ensures)
-    (also (put (text c.put-number.new.self) space c.put.ensures)
-    (also (put (text c.put.new.self) w c.put-all.ensures)
-    (also (put (text c.put-all.new.self) space c.put-2.ensures)
-    (also (put (text c.put-2.new.self) d c.put-number-2.ensures)
-    (also (put (text c.put-number-2.new.self) space c.put-3.ensures)
-    (also (put (text c.put-3.new.self) s c.put-number-3.ensures)
-    (put (text c.put-number-3.new.self) (10 ∷ []) c.put-4.ensures))))))))
+    (also (put (text c.args.out.now) n c.put_number.ensures)
+    (also (put (text c.put_number.new.self) space c.put.ensures)
+    (also (put (text c.put.new.self) w c.put_all.ensures)
+    (also (put (text c.put_all.new.self) space c.put-2.ensures)
+    (also (put (text c.put-2.new.self) d c.put_number-2.ensures)
+    (also (put (text c.put_number-2.new.self) space c.put-3.ensures)
+    (also (put (text c.put-3.new.self) s c.put_number-3.ensures)
+    (put (text c.put_number-3.new.self) (10 ∷ []) c.put-4.ensures))))))))
     (end-apart n w space d s (10 ∷ []))
     ).is

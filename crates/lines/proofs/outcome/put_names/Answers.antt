@@ -9,7 +9,7 @@ use Rattle.lines.proofs.outcome.put_names.Goals as goal
 
 pub loop-dispatch-init : goal.loop-dispatch-init
 loop-dispatch-init c =
-    let it = c.into-iter-dispatch-iterator.result in
+    let it = c.into_iter-dispatch-iterator.result in
     let ds : iter_rest (zip_first it) ≡ c.args.dispatches.now = search rules in
     let ss : iter_rest (zip_second it) ≡ c.args.sections.now = search rules in
     ap (put_behind (text c.args.out.now)) (lines_same c.args.number c.args.word.now ds ss)
@@ -20,9 +20,9 @@ loop-dispatch-preserved c =
     let left = c.next.new.self in
     let steps = c.in-Some.ensures.steps in
     let all = put_behind (text c.args.out.now) (named_lines c.args.number c.args.word.now (names c.args.dispatches.now c.args.sections.now)) in
-    lines_step c.args.number c.args.word.now (text c.loop-dispatch.out) (text c.put-name.new.out)
+    lines_step c.args.number c.args.word.now (text c.loop-dispatch.out) (text c.put_name.new.out)
     (iter_rest (zip_first was)) (iter_rest (zip_second was)) c.in-Some.dispatch.now c.in-Some.section.now (iter_rest (zip_first left)) (iter_rest (zip_second left))
-    all steps.0 steps.1 c.put-name.ensures c.loop-dispatch.invariant
+    all steps.0 steps.1 c.put_name.ensures c.loop-dispatch.invariant
 
 pub returns : goal.returns
 returns c =

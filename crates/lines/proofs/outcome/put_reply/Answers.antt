@@ -20,19 +20,19 @@ returns c =
     elim c.match-outcome.branch [
       | in-Ok w ↦
           let same = same-words w.in-Ok.is in (
-            ap text w.out-is ∙ w.put-all.ensures ∙ ap (put_behind before) (w.answer-word.ensures ∙ same),
+            ap text w.out-is ∙ w.put_all.ensures ∙ ap (put_behind before) (w.answer_word.ensures ∙ same),
             subst (λ (xs : List ℕ). length xs ≤ 16) same (answer_short w.in-Ok.answer),
           )
       | in-Err w ↦
           let same = same-words w.in-Err.is in (
-            ap text w.out-is ∙ w.put-fault.ensures.puts ∙ ap (put_behind before) same,
-            subst (λ (xs : List ℕ). length xs ≤ 16) same w.put-fault.ensures.short,
+            ap text w.out-is ∙ w.put_fault.ensures.puts ∙ ap (put_behind before) same,
+            subst (λ (xs : List ℕ). length xs ≤ 16) same w.put_fault.ensures.short,
           )
     ] in
     record {
       puts =
-          (also (put (text c.args.out.now) (decimal c.args.number) c.put-number.ensures)
-          (also (put (text c.put-number.new.self) (32 ∷ []) c.put.ensures)
+          (also (put (text c.args.out.now) (decimal c.args.number) c.put_number.ensures)
+          (also (put (text c.put_number.new.self) (32 ∷ []) c.put.ensures)
           (also (put before ws done.0)
           (put (text c.match-outcome.out) (10 ∷ []) c.put-2.ensures)))
           ).is;

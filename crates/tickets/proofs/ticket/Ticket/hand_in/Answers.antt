@@ -8,29 +8,29 @@ use Rattle.tickets.specs.HandIn.{hand_in}
 use Rattle.tickets.proofs.Handing.{condition_told, ended_as, refused_free, answered_ended, made_as, freed}
 use Rattle.tickets.proofs.ticket.Ticket.hand_in.Goals as goal
 
-pub returns-in-err-end : goal.returns-in-err-end
-returns-in-err-end g c =
+pub returns-in_err-end : goal.returns-in_err-end
+returns-in_err-end g c =
     let b = c.args.book.now in
     let u = g.T.UseTable.meaning b.table in
     let o = g.O.RecallOrder.meaning b.order in
     let d = c.args.self.dispatch in
     let small = c.args.self.small in
-    let k = c.in-ok-condition.field-0.condition in
-    let e = c.in-err-end.field-0.0 in
+    let k = c.in_ok-condition.field-0.condition in
+    let e = c.in_err-end.field-0.0 in
     let r = c.end.new.report in
     let t = state c.end.new.book in
-    let is = condition_told u (state b) d small k c.in-ok-condition.field-0.waits_for c.in-ok-condition.ensures in
-    let made = c.in-err-end.ensures.done in
+    let is = condition_told u (state b) d small k c.in_ok-condition.field-0.waits_for c.in_ok-condition.ensures in
+    let made = c.in_err-end.ensures.done in
     let does = made_as u (state b) d small o r t k is (Err e) made in
-    let p = err_from_is_err_and c.from-residual-in-err-end.result c.from-residual-in-err-end.ensures.1 in
+    let p = err_from_is_err_and c.from_residual-in_err-end.result c.from_residual-in_err-end.ensures.1 in
     rw (p.1, p.2)
     (record {
       ended = ended_as u (state b) d small k is (Err e) (refused_free u (state b) d small o r t k is e made);
       done = does;
       law = goes_on u (g.met.T.UseTable.lawful b.table) o (g.met.O.RecallOrder.lawful b.order) (state b) (hand_in (condition u (state b) d) d) (Err e) r t (λ _. does);
       freed = freed u (g.met.T.UseTable.lawful b.table) o (g.met.O.RecallOrder.lawful b.order) (state b) d small r t (Err e) does;
-      table = c.in-err-end.ensures.table;
-      order = c.in-err-end.ensures.order;
+      table = c.in_err-end.ensures.table;
+      order = c.in_err-end.ensures.order;
     })
 
 pub returns : goal.returns
@@ -40,18 +40,18 @@ returns g c =
     let o = g.O.RecallOrder.meaning b.order in
     let d = c.args.self.dispatch in
     let small = c.args.self.small in
-    let k = c.in-ok-condition.field-0.condition in
-    let y = c.ending-of.result in
+    let k = c.in_ok-condition.field-0.condition in
+    let y = c.ending_of.result in
     let r = c.end.new.report in
     let t = state c.end.new.book in
-    let is = condition_told u (state b) d small k c.in-ok-condition.field-0.waits_for c.in-ok-condition.ensures in
-    let made = answered_ended u (state b) d small o r t k is c.in-ok-end.field-0 y c.ending-of.ensures c.in-ok-end.ensures.done in
+    let is = condition_told u (state b) d small k c.in_ok-condition.field-0.waits_for c.in_ok-condition.ensures in
+    let made = answered_ended u (state b) d small o r t k is c.in_ok-end.field-0 y c.ending_of.ensures c.in_ok-end.ensures.done in
     let does = made_as u (state b) d small o r t k is (booked y) made in
     record {
-      ended = ended_as u (state b) d small k is y c.ending-of.ensures;
+      ended = ended_as u (state b) d small k is y c.ending_of.ensures;
       done = does;
       law = goes_on u (g.met.T.UseTable.lawful b.table) o (g.met.O.RecallOrder.lawful b.order) (state b) (hand_in (condition u (state b) d) d) (booked y) r t (λ _. does);
       freed = freed u (g.met.T.UseTable.lawful b.table) o (g.met.O.RecallOrder.lawful b.order) (state b) d small r t (booked y) does;
-      table = c.in-ok-end.ensures.table;
-      order = c.in-ok-end.ensures.order;
+      table = c.in_ok-end.ensures.table;
+      order = c.in_ok-end.ensures.order;
     }

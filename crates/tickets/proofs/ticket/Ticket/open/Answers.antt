@@ -8,33 +8,33 @@ use Rattle.book.proofs.GoesOn.{goes_on}
 use Rattle.tickets.proofs.Passing.{passed, answered_ok}
 use Rattle.tickets.proofs.ticket.Ticket.open.Goals as goal
 
-pub returns-in-err-open : goal.returns-in-err-open
-returns-in-err-open g c =
+pub returns-in_err-open : goal.returns-in_err-open
+returns-in_err-open g c =
     let b = c.args.book.now in
     let u = g.T.UseTable.meaning b.table in
     let o = g.O.RecallOrder.meaning b.order in
     let asked = call.Open c.args.dispatch c.args.weight in
-    let e = c.in-err-open.field-0.0 in
-    let does = c.in-err-open.ensures.done in
-    let p = err_from_is_err_and c.from-residual.result c.from-residual.ensures.1 in
+    let e = c.in_err-open.field-0.0 in
+    let does = c.in_err-open.ensures.done in
+    let p = err_from_is_err_and c.from_residual.result c.from_residual.ensures.1 in
     rw (p.1, p.2)
     (record {
       named = tt;
       done = does;
       law = goes_on u (g.met.T.UseTable.lawful b.table) o (g.met.O.RecallOrder.lawful b.order) (state b) asked (Err e) c.open.new.report (state c.open.new.self) (λ _. does);
-      table = c.in-err-open.ensures.table;
-      order = c.in-err-open.ensures.order;
+      table = c.in_err-open.ensures.table;
+      order = c.in_err-open.ensures.order;
     })
 
-pub invariant-of-result : goal.invariant-of-result
-invariant-of-result g c =
+pub invariant_of-result : goal.invariant_of-result
+invariant_of-result g c =
     let b = c.args.book.now in
     let u = g.T.UseTable.meaning b.table in
     let o = g.O.RecallOrder.meaning b.order in
     let asked = call.Open c.args.dispatch c.args.weight in
-    let through = passed u o (state b) asked c.open.new.report (state c.open.new.self) c.in-ok-open.field-0 c.in-ok-open.ensures.done in
+    let through = passed u o (state b) asked c.open.new.report (state c.open.new.self) c.in_ok-open.field-0 c.in_ok-open.ensures.done in
     let below = (passed_opening u (state b) c.args.dispatch c.args.weight through).0 in
-    (omega (arith, below), tt)
+    record { small = omega (arith, below) }
 
 pub returns : goal.returns
 returns g c =
@@ -42,11 +42,11 @@ returns g c =
     let u = g.T.UseTable.meaning b.table in
     let o = g.O.RecallOrder.meaning b.order in
     let asked = call.Open c.args.dispatch c.args.weight in
-    let does = answered_ok u o (state b) asked c.open.new.report (state c.open.new.self) c.in-ok-open.field-0 refl c.in-ok-open.ensures.done in
+    let does = answered_ok u o (state b) asked c.open.new.report (state c.open.new.self) c.in_ok-open.field-0 refl c.in_ok-open.ensures.done in
     record {
       named = refl;
       done = does;
       law = goes_on u (g.met.T.UseTable.lawful b.table) o (g.met.O.RecallOrder.lawful b.order) (state b) asked (Ok answer.Ok) c.open.new.report (state c.open.new.self) (λ _. does);
-      table = c.in-ok-open.ensures.table;
-      order = c.in-ok-open.ensures.order;
+      table = c.in_ok-open.ensures.table;
+      order = c.in_ok-open.ensures.order;
     }
