@@ -11,5 +11,4 @@ mod refusals;
 mod room;
 #[cfg(test)]
 mod sessions;
-#[cfg(test)]
-mod setting;
+pub mod setting;

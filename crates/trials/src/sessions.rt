@@ -34,7 +34,7 @@ fn claim_all(rt: &impl Abort, console: &mut Console<TwoUses, Newest>) {
         line.put_all(b" 0\n");
         console.take(line.text(), &mut printed);
     }
-    assert_eq!(rt; printed.text(), b"513 granted\n");
+    assert_eq!(rt; printed.text(), b"513 granted\n".as_slice());
 }
 
 #[test]
@@ -53,7 +53,7 @@ fn line_1000000_is_the_last(rt: HostRuntime) {
     for _ in 1..1000000u32 {
         console.take(b"S\n", &mut printed);
     }
-    assert_eq!(rt; printed.text(), b"999999 ok\n");
+    assert_eq!(rt; printed.text(), b"999999 ok\n".as_slice());
     assert_eq!(rt; console.has_stopped(), false);
     check_line(&rt, &mut console, b"S\n", b"1000000 fault 44 at 1\n");
     assert_eq!(rt; console.has_stopped(), true);
@@ -65,12 +65,12 @@ fn a_rest_is_answered_at_the_end(rt: HostRuntime) {
     let mut console = new_console();
     let mut printed = Printed::new();
     assert_eq!(rt; console.take(b"O 1", &mut printed), 3);
-    assert_eq!(rt; printed.text(), b"");
+    assert_eq!(rt; printed.text(), b"".as_slice());
     assert_eq!(rt; console.take(b" 5\nS", &mut printed), 3);
-    assert_eq!(rt; printed.text(), b"1 ok\n");
+    assert_eq!(rt; printed.text(), b"1 ok\n".as_slice());
     assert_eq!(rt; console.take(b"S", &mut printed), 1);
     console.finish(&mut printed);
-    assert_eq!(rt; printed.text(), b"2 ok\n");
+    assert_eq!(rt; printed.text(), b"2 ok\n".as_slice());
     assert_eq!(rt; printed.count(), 5);
     assert_eq!(rt; printed.bytes().len(), 2048);
 }

@@ -7,12 +7,12 @@ use orders::single::Newest;
 use uses::two_uses::TwoUses;
 
 // A book of two uses that recalls the newest.
-pub(crate) fn new_book(detection: Detection) -> Book<TwoUses, Newest> {
+pub fn new_book(detection: Detection) -> Book<TwoUses, Newest> {
     Book::new(TwoUses, Newest, detection)
 }
 
 // Opens the dispatches below `count`, in the order of their numbers.
-pub(crate) fn open_all(
+pub fn open_all(
     book: &mut Book<TwoUses, Newest>,
     count: u32,
     report: &mut Report,

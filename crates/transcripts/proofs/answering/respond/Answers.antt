@@ -10,33 +10,33 @@ returns-then-number-eq-LAST g c =
     let u = g.T.UseTable.meaning b.table in
     let o = g.O.RecallOrder.meaning b.order in
     record {
-      done = λ _. rw c.too-many-lines.ensures (last_responded u o c.args.number (state b) c.args.line.now c.args.report.now (omega arith) c.requires.1);
+      done = λ _. rw c.too_many_lines.ensures (last_responded u o c.args.number (state b) c.args.line.now c.args.report.now (omega arith) c.requires.1);
       table = refl;
       order = refl;
     }
 
-pub returns-in-err-call : goal.returns-in-err-call
-returns-in-err-call g c =
+pub returns-in_err-call : goal.returns-in_err-call
+returns-in_err-call g c =
     let b = c.args.book.now in
     let u = g.T.UseTable.meaning b.table in
     let o = g.O.RecallOrder.meaning b.order in
-    let p = err_from_is_err_and c.from-residual.result c.from-residual.ensures.1 in
+    let p = err_from_is_err_and c.from_residual.result c.from_residual.ensures.1 in
     record {
-      done = λ _. rw (p.1, p.2) (fault_responded u o c.args.number (state b) c.args.line.now c.in-err-call.field-0.0 c.args.report.now (omega (arith, c.requires.0)) c.in-err-call.ensures c.requires.1);
+      done = λ _. rw (p.1, p.2) (fault_responded u o c.args.number (state b) c.args.line.now c.in_err-call.field-0.0 c.args.report.now (omega (arith, c.requires.0)) c.in_err-call.ensures c.requires.1);
       table = refl;
       order = refl;
     }
 
-pub returns-in-err-answer : goal.returns-in-err-answer
-returns-in-err-answer g c =
+pub returns-in_err-answer : goal.returns-in_err-answer
+returns-in_err-answer g c =
     let b = c.args.book.now in
     let u = g.T.UseTable.meaning b.table in
     let o = g.O.RecallOrder.meaning b.order in
-    let p = err_from_is_err_and c.from-residual-in-err-answer.result c.from-residual-in-err-answer.ensures.1 in
+    let p = err_from_is_err_and c.from_residual-in_err-answer.result c.from_residual-in_err-answer.ensures.1 in
     record {
-      done = λ reached. rw (p.1, p.2) (run_responded u (g.met.T.UseTable.lawful b.table) o (g.met.O.RecallOrder.lawful b.order) c.args.number (state b) c.args.line.now c.in-ok-call.call (Err c.in-err-answer.field-0.0) c.carry-out.new.report (state c.carry-out.new.self) (omega (arith, c.requires.0)) c.in-ok-call.ensures c.in-err-answer.ensures.law reached);
-      table = c.carry-out.ensures.table;
-      order = c.carry-out.ensures.order;
+      done = λ reached. rw (p.1, p.2) (run_responded u (g.met.T.UseTable.lawful b.table) o (g.met.O.RecallOrder.lawful b.order) c.args.number (state b) c.args.line.now c.in_ok-call.call (Err c.in_err-answer.field-0.0) c.carry_out.new.report (state c.carry_out.new.self) (omega (arith, c.requires.0)) c.in_ok-call.ensures c.in_err-answer.ensures.law reached);
+      table = c.carry_out.ensures.table;
+      order = c.carry_out.ensures.order;
     }
 
 pub returns : goal.returns
@@ -45,7 +45,7 @@ returns g c =
     let u = g.T.UseTable.meaning b.table in
     let o = g.O.RecallOrder.meaning b.order in
     record {
-      done = run_responded u (g.met.T.UseTable.lawful b.table) o (g.met.O.RecallOrder.lawful b.order) c.args.number (state b) c.args.line.now c.in-ok-call.call (Ok c.in-ok-answer.answer) c.carry-out.new.report (state c.carry-out.new.self) (omega (arith, c.requires.0)) c.in-ok-call.ensures c.in-ok-answer.ensures.law;
-      table = c.carry-out.ensures.table;
-      order = c.carry-out.ensures.order;
+      done = run_responded u (g.met.T.UseTable.lawful b.table) o (g.met.O.RecallOrder.lawful b.order) c.args.number (state b) c.args.line.now c.in_ok-call.call (Ok c.in_ok-answer.answer) c.carry_out.new.report (state c.carry_out.new.self) (omega (arith, c.requires.0)) c.in_ok-call.ensures c.in_ok-answer.ensures.law;
+      table = c.carry_out.ensures.table;
+      order = c.carry_out.ensures.order;
     }

@@ -12,11 +12,11 @@ pub loop-piece-preserved : goal.loop-piece-preserved
 loop-piece-preserved g c =
     let pieces = c.args.pieces.now in
     let i = c.loop-piece.piece-index in
-    read_more g.T.UseTable.meaning g.O.RecallOrder.meaning c.new-console.result c.loop-piece.console c.take-all.new.self (all_bytes (map (λ p. p.now) pieces)) (all_bytes (map (λ p. p.now) (drop i pieces))) _ (all_bytes (map (λ p. p.now) (drop (i + 1) pieces))) (vec_items c.new-out.result) (vec_items c.loop-piece.out) (vec_items c.take-all.new.out) c.loop-piece.invariant (next_piece (λ p. p.now) pieces i _ c.loop-piece-test.true) c.in-ok-take-all.ensures.read c.take-all.ensures.table c.take-all.ensures.order
+    read_more g.T.UseTable.meaning g.O.RecallOrder.meaning c.new-console.result c.loop-piece.console c.take_all.new.self (all_bytes (map (λ p. p.now) pieces)) (all_bytes (map (λ p. p.now) (drop i pieces))) _ (all_bytes (map (λ p. p.now) (drop (i + 1) pieces))) (vec_items c.new-out.result) (vec_items c.loop-piece.out) (vec_items c.take_all.new.out) c.loop-piece.invariant (next_piece (λ p. p.now) pieces i _ c.loop-piece-test.true) c.in_ok-take_all.ensures.read c.take_all.ensures.table c.take_all.ensures.order
 
 pub returns : goal.returns
 returns g c =
     let pieces = c.args.pieces.now in
     let i = c.loop-piece.piece-index in
     let so_far = vec_items c.loop-piece.out in
-    whole_input g.T.UseTable.meaning g.O.RecallOrder.meaning c.args.table c.args.order c.args.detection c.new-console.result c.loop-piece.console (all_bytes (map (λ p. p.now) pieces)) (all_bytes (map (λ p. p.now) (drop i pieces))) (vec_items c.new-out.result) so_far (text c.finish.new.printed) (vec_items c.extend-from-slice.new.self) c.new-console.ensures.starts c.new-console.ensures.table c.new-console.ensures.order c.new-out.ensures.items c.loop-piece.invariant (no_piece (λ p. p.now) pieces i (omega arith)) c.finish.ensures.read (c.in-ok-extend-from-slice.ensures.items ∙ ap (λ (ys : List ℕ). so_far ++ ys) c.text.ensures)
+    whole_input g.T.UseTable.meaning g.O.RecallOrder.meaning c.args.table c.args.order c.args.detection c.new-console.result c.loop-piece.console (all_bytes (map (λ p. p.now) pieces)) (all_bytes (map (λ p. p.now) (drop i pieces))) (vec_items c.new-out.result) so_far (text c.finish.new.printed) (vec_items c.extend_from_slice.new.self) c.new-console.ensures.starts c.new-console.ensures.table c.new-console.ensures.order c.new-out.ensures.items c.loop-piece.invariant (no_piece (λ p. p.now) pieces i (omega arith)) c.finish.ensures.read (c.in_ok-extend_from_slice.ensures.items ∙ ap (λ (ys : List ℕ). so_far ++ ys) c.text.ensures)

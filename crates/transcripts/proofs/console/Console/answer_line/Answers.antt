@@ -22,7 +22,7 @@ returns g c =
     let u = g.T.UseTable.meaning b.table in
     let o = g.O.RecallOrder.meaning b.order in
     record {
-      done = λ detection ended rest before h. response_printed u o detection ended rest before (text c.print-outcome.new.out) c.rows.result.now c.args.self.now _ (c.args.self.now.answered + 1) c.respond-outcome.result c.respond-outcome.new.report h (omega arith) (omega arith) c.rows.ensures (c.respond-outcome.ensures.done (reached_answered u o detection ended before (state b) h.answered)) c.print-outcome.ensures refl c.new-self-2.ensures;
+      done = λ detection ended rest before h. response_printed u o detection ended rest before (text c.print_outcome.new.out) c.rows.result.now c.args.self.now _ (c.args.self.now.answered + 1) c.respond-outcome.result c.respond-outcome.new.report h (omega arith) (omega arith) c.rows.ensures (c.respond-outcome.ensures.done (reached_answered u o detection ended before (state b) h.answered)) c.print_outcome.ensures refl c.new-self-2.ensures;
       table = c.respond-outcome.ensures.table;
       order = c.respond-outcome.ensures.order;
     }

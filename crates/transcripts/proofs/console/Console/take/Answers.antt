@@ -8,8 +8,8 @@ use Rattle.transcripts.proofs.console.Console.take.Goals as goal
 pub loop-byte-init : goal.loop-byte-init
 loop-byte-init g c = (refl, c.clear.ensures, gathered_nothing c.args.self.now c.args.piece.now)
 
-pub overflow-add-taken : goal.overflow-add-taken
-overflow-add-taken g c = let counts = c.loop-byte.invariant.0 in search (rules, counts)
+pub overflow_add-taken : goal.overflow_add-taken
+overflow_add-taken g c = let counts = c.loop-byte.invariant.0 in search (rules, counts)
 
 pub returns-then-byte-eq10 : goal.returns-then-byte-eq10
 returns-then-byte-eq10 g c =
@@ -21,10 +21,10 @@ returns-then-byte-eq10 g c =
     record {
       taken = ap (λ (n : ℕ). n + 1) c.loop-byte.invariant.0 ∙ counted_to_end first c.loop-byte.self piece i here gathered c.loop-byte-test.true refl c.if-byte-eq10.true;
       read = λ detection input before h.
-          subst (λ (n : ℕ). HasRead (g.T.UseTable.meaning first.book.table) (g.O.RecallOrder.meaning first.book.order) detection (input ++ take (n + 1) piece) (before ++ text c.answer-line.new.printed) c.answer-line.new.self) (sym c.loop-byte.invariant.0)
-          (read_line g.T.UseTable.meaning g.O.RecallOrder.meaning detection input before (text c.answer-line.new.printed) first c.loop-byte.self c.answer-line.new.self piece i here gathered c.loop-byte-test.true refl c.if-byte-eq10.true c.answer-line.ensures.done h);
-      table = c.answer-line.ensures.table ∙ ap (λ (k : Book g.row.T.Denot g.row.O.Denot). k.table) gathered.same_book;
-      order = c.answer-line.ensures.order ∙ ap (λ (k : Book g.row.T.Denot g.row.O.Denot). k.order) gathered.same_book;
+          subst (λ (n : ℕ). HasRead (g.T.UseTable.meaning first.book.table) (g.O.RecallOrder.meaning first.book.order) detection (input ++ take (n + 1) piece) (before ++ text c.answer_line.new.printed) c.answer_line.new.self) (sym c.loop-byte.invariant.0)
+          (read_line g.T.UseTable.meaning g.O.RecallOrder.meaning detection input before (text c.answer_line.new.printed) first c.loop-byte.self c.answer_line.new.self piece i here gathered c.loop-byte-test.true refl c.if-byte-eq10.true c.answer_line.ensures.done h);
+      table = c.answer_line.ensures.table ∙ ap (λ (k : Book g.row.T.Denot g.row.O.Denot). k.table) gathered.same_book;
+      order = c.answer_line.ensures.order ∙ ap (λ (k : Book g.row.T.Denot g.row.O.Denot). k.order) gathered.same_book;
     }
 
 pub loop-byte-preserved : goal.loop-byte-preserved
