@@ -19,7 +19,7 @@ use Rattle.model.specs.declared.state.Opened.{Opened}
 use Rattle.model.proofs.Clashes.{some_after}
 use Rattle.model.proofs.Graphs.{at_most, chain_short, end_member}
 use Rattle.model.proofs.ClaimLists.{waits_waits_for}
-use Rattle.model.proofs.Recalls.{steps_open, recalls, recalls_clear, recalls_some, recalls_cycle, Right, recalls_right}
+use Rattle.model.proofs.Recalls.{steps_open, recalls_clear, recalls_some, recalls_cycle, Right, recalls_right}
 use Rattle.model.proofs.Keeps.{grounded}
 use Rattle.model.proofs.Steps.{Looked, looks, looks_not, looked, step_detection, step_invariant}
 use Rattle.model.proofs.Grants.{run_invariant, exclusion}

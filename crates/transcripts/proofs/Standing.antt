@@ -1,5 +1,5 @@
 -- Where a console stands after a line, and after bytes of one.
-use Rattle.std.proofs.Common.{◌≡◌, ℕ, suc, ◌+◌, ◌<◌, cond, ltb, List, [], ◌++◌, take, Result, sym, ap, ◌∙◌, subst, arith}
+use Rattle.std.proofs.Common.{◌≡◌, ℕ, suc, ◌<◌, cond, ltb, List, [], ◌++◌, take, Result, sym, ap, ◌∙◌, subst, arith}
 use Rattle.std.proofs.lemmas.Bool.Decides.{nat_tests}
 use Rattle.printed.proofs.Behind.{take_cut}
 use Rattle.lists.specs.Entries.{entries}

@@ -1,4 +1,4 @@
-use Rattle.std.proofs.Common.{◌&&◌, ltb, get_or}
+use Rattle.std.proofs.Common.{◌&&◌, ltb}
 use Rattle.std.proofs.lemmas.Bool.{ltb-true}
 use Rattle.marks.specs.Marks.{marked}
 use Rattle.model.specs.Claims.{of, blocks}

@@ -1,5 +1,4 @@
 use Rattle.std.proofs.Common.{refl, ap}
-use Rattle.model.specs.Calls.{woken}
 use Rattle.model.specs.declared.call.Call.TheVariants as call
 use Rattle.book.specs.Held.{state}
 use Rattle.book.specs.declared.answers.Answer.TheVariants as answer
