@@ -1,6 +1,6 @@
 -- What the book's tables keep: open numbers differ and are below 64, and every claim is of an open dispatch.
 use Rattle.std.proofs.Common.{◌≡◌, ℕ, ◌<◌, ◌≤◌, true, false, not, eqb, ltb, List, [], ◌∷◌, ◌++◌, length, get_or, ap, ◌∙◌, arith}
-use Rattle.std.specs.List.{list_all, AllByRecursion as All}
+use Rattle.std.specs.List.{list_all, AllByRecursion}
 use Rattle.std.proofs.lemmas.List.{length-map, length_push}
 use Rattle.std.proofs.lemmas.Bool.{and_parts, ltb-true, false≢true}
 use Rattle.std.proofs.lemmas.Bool.Decides.{nat_tests}
@@ -69,7 +69,7 @@ steady_below d (e ∷ es) h k = let rest = steady_below d es in grind (arith, na
 pub small_at : (es : List Opened) (i : ℕ) (x : Opened) → i < length es → list_all (λ e. ltb e.dispatch 64) es ≡ true → (get_or es i x).dispatch < 64
 small_at es i x h small = ltb-true (get_or es i x).dispatch 64 (all_pass_at (λ e. ltb e.dispatch 64) es i x small h)
 
-numbers_below : (es : List Opened) → list_all (λ e. ltb e.dispatch 64) es ≡ true → All (λ n. n < 64) (numbers es)
+numbers_below : (es : List Opened) → list_all (λ e. ltb e.dispatch 64) es ≡ true → AllByRecursion (λ n. n < 64) (numbers es)
 numbers_below [] h = tt
 numbers_below (e ∷ es) h =
     let parts = and_parts (ltb e.dispatch 64) (list_all (λ e. ltb e.dispatch 64) es) h in

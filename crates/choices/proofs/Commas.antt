@@ -1,6 +1,6 @@
 -- A name with a comma is the name of a pair, one without is the name of a single order.
 use Rattle.std.proofs.Common.{◌≡◌, ℕ, List, [], ◌∷◌, ◌++◌, Some, None, Option, sym, refl, ◌∙◌, subst, arith, Bor, rules}
-use Rattle.std.specs.List.{AllByRecursion as All}
+use Rattle.std.specs.List.{AllByRecursion}
 use Rattle.std.proofs.ByRecursion.{All-get_or, All-from_get_or}
 use Rattle.std.proofs.lemmas.Str.Pattern.{IsSplitOnceResult, split_parts, split_after}
 use Rattle.choices.specs.Names.{Named, order_name, chosen_name}
@@ -13,13 +13,13 @@ abbrev Other : ℕ → Type 0
 Other b = b ≡ 44 → ⊥
 
 -- the name of a single order has no comma
-plain : (o : AnyOrder) → All Other (order_name o)
+plain : (o : AnyOrder) → AllByRecursion Other (order_name o)
 plain Newest = search rules
 plain Lightest = search rules
 plain Fewest = search rules
 
 -- a list around a comma has one
-comma : (a b : List ℕ) → All Other (a ++ (44 ∷ b)) → ⊥
+comma : (a b : List ℕ) → AllByRecursion Other (a ++ (44 ∷ b)) → ⊥
 comma [] b h = h.0 refl
 comma (x ∷ a) b h = comma a b h.1
 
@@ -27,17 +27,17 @@ comma (x ∷ a) b h = comma a b h.1
 pub whole_none : (word : List ℕ) (s : Option AnyOrder) → IsSplitOnceResult 44 word None → Named order_name word s → s ≡ None → Named chosen_name word None
 whole_none word s split named is (One o) = (λ e. cc, λ e. let h = (named o).1 e in cc)
 whole_none word s split named is (Both p) =
-    (λ e. cc, λ e. absurd (comma (order_name p.first) (order_name p.second) (subst (All Other) e (All-from_get_or Other word 0 (split_parts 44 word None split (omega arith))))))
+    (λ e. cc, λ e. absurd (comma (order_name p.first) (order_name p.second) (subst (AllByRecursion Other) e (All-from_get_or Other word 0 (split_parts 44 word None split (omega arith))))))
 
 pub whole_some : (word : List ℕ) (s : Option AnyOrder) (o : AnyOrder) → IsSplitOnceResult 44 word None → Named order_name word s → s ≡ Some o → Named chosen_name word (Some (One o))
 whole_some word s o split named is (One p) = (λ e. (named p).0 (cc), λ e. let h = (named p).1 e in cc)
 whole_some word s o split named is (Both p) =
-    (λ e. cc, λ e. absurd (comma (order_name p.first) (order_name p.second) (subst (All Other) e (All-from_get_or Other word 0 (split_parts 44 word None split (omega arith))))))
+    (λ e. cc, λ e. absurd (comma (order_name p.first) (order_name p.second) (subst (AllByRecursion Other) e (All-from_get_or Other word 0 (split_parts 44 word None split (omega arith))))))
 
 -- a word that is cut at a comma names no single order
 cut_single : (word : List ℕ) (x : Bor (List ℕ) × Bor (List ℕ)) (o : AnyOrder) → IsSplitOnceResult 44 word (Some x) → word ≡ order_name o → ⊥
 cut_single word x o split e =
-    comma x.0.now x.1.now (subst (All Other) (sym e ∙ (split_parts 44 word (Some x) split (omega arith)).0) (plain o))
+    comma x.0.now x.1.now (subst (AllByRecursion Other) (sym e ∙ (split_parts 44 word (Some x) split (omega arith)).0) (plain o))
 
 -- a word that names a pair is cut into the two names
 cut_pair : (word : List ℕ) (x : Bor (List ℕ) × Bor (List ℕ)) (o p : AnyOrder) → IsSplitOnceResult 44 word (Some x) → word ≡ order_name o ++ (44 ∷ order_name p) → (x.0.now ≡ order_name o) × (x.1.now ≡ order_name p)

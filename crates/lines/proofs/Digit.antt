@@ -1,7 +1,7 @@
 -- Digits at the front of a text.
 use Rattle.std.proofs.Common.{◌≡◌, ℕ, zero, suc, ◌+◌, ◌-◌, ◌*◌, ◌<◌, ◌≤◌, cond, eqb, ◌⊎◌, List, [], ◌∷◌, ◌++◌, length, get_or, take, drop, sym, refl, ap, ◌∙◌, subst, inl, arith}
 use Rattle.std.specs.Str.Parse.{AllDigits, digits_value}
-use Rattle.std.specs.Char.{digit_value as digitValue}
+use Rattle.std.specs.Char.{digit_value}
 use Rattle.std.proofs.lemmas.List.{get_or-drop, get_or-take, length-take-le, take-append-drop, take_rest}
 use Rattle.std.proofs.lemmas.Int.Digits.{digits_value_more}
 use Rattle.std.proofs.lemmas.Str.Parse.{numerals_by_value, tells_digits, digits_value_short, digit_at}
@@ -10,11 +10,11 @@ use Rattle.lines.specs.Fields.{DigitFirst, most_digits, Counts, Takes}
 use Rattle.lines.specs.Form.{Field}
 
 -- the value of a digit
-pub digit_value : (c : ℕ) → 48 ≤ c → c ≤ 57 → digitValue c ≡ c - 48
-digit_value c low high = grind (arith, nat_tests, low, high)
+pub value_of_digit : (c : ℕ) → 48 ≤ c → c ≤ 57 → digit_value c ≡ c - 48
+value_of_digit c low high = grind (arith, nat_tests, low, high)
 
 -- what is no digit has no value below ten
-pub no_digit : (c : ℕ) → (c < 48) ⊎ (57 < c) → digitValue c < 10 → ⊥
+pub no_digit : (c : ℕ) → (c < 48) ⊎ (57 < c) → digit_value c < 10 → ⊥
 no_digit c h less = grind (arith, nat_tests, h, less)
 
 -- no digit stands first where the text ends
@@ -39,13 +39,13 @@ value_small ds i h inside few = let long = length-take-le i ds (omega arith) in 
 pub value_next : (ds : List ℕ) (i : ℕ) → AllDigits 10 ds → i < length ds → digits_value 10 (take (i + 1) ds) ≡ digits_value 10 (take i ds) * 10 + (get_or ds i 0 - 48)
 value_next ds i h inside =
     let at = digit_at ds i h inside in
-    digits_value_more 10 ds i inside ∙ ap (λ (n : ℕ). digits_value 10 (take i ds) * 10 + n) (digit_value (get_or ds i 0) at.0 at.1)
+    digits_value_more 10 ds i inside ∙ ap (λ (n : ℕ). digits_value 10 (take i ds) * 10 + n) (value_of_digit (get_or ds i 0) at.0 at.1)
 
 -- digits counted up to a byte that is none, or up to the most
-pub counted : (text : List ℕ) (count : ℕ) → count ≤ length text → count ≤ most_digits text → AllDigits 10 (take count text) → (digitValue (get_or text count 0) < 10 → count ≡ most_digits text) → Counts text count
+pub counted : (text : List ℕ) (count : ℕ) → count ≤ length text → count ≤ most_digits text → AllDigits 10 (take count text) → (digit_value (get_or text count 0) < 10 → count ≡ most_digits text) → Counts text count
 counted text count inside few digits stops =
     let here : get_or (drop count text) 0 0 ≡ get_or text count 0 = get_or-drop count text 0 0 ∙ ap (λ (i : ℕ). get_or text i 0) (let e : count + 0 ≡ count = omega arith in e) in
-    record { inside = inside; few = few; digits = digits; complete = λ h. stops (subst (λ (c : ℕ). digitValue c < 10) here h) }
+    record { inside = inside; few = few; digits = digits; complete = λ h. stops (subst (λ (c : ℕ). digit_value c < 10) here h) }
 
 -- where none are counted, no digit stands first
 pub none_counted : (text : List ℕ) → Counts text 0 → DigitFirst text → ⊥

@@ -1,7 +1,7 @@
 -- Whether some element of a list passes: lists put together, mapped and filtered, and an element that passes.
 use Rattle.std.proofs.Common.{◌≡◌, Bool, true, ◌&&◌, ◌||◌, List, [], ◌∷◌, ◌++◌, map, is_some, filter, refl, inl, inr, arith}
 use mathlib.Core.Bool.{or_assoc}
-use Rattle.std.specs.List.{AllByRecursion as All}
+use Rattle.std.specs.List.{AllByRecursion}
 use Rattle.std.proofs.lemmas.Bool.{or_cases, or_left, or_right, false≢true}
 use Rattle.model.specs.Search.{any, find}
 
@@ -31,7 +31,7 @@ any_kept_by p q [] = refl
 any_kept_by p q (x ∷ xs) = grind (arith, any_kept_by p q xs)
 
 -- if some element passes, there is one that passes, and that has whatever all elements have
-pub any_all : {X : Type 0} (p : X → Bool) (P : X → Type 0) (xs : List X) → All P xs → any p xs ≡ true → (x : X) × P x × (p x ≡ true)
+pub any_all : {X : Type 0} (p : X → Bool) (P : X → Type 0) (xs : List X) → AllByRecursion P xs → any p xs ≡ true → (x : X) × P x × (p x ≡ true)
 any_all p P [] all = λ h. absurd (false≢true h)
 any_all p P (x ∷ xs) all = λ h. elim (or_cases (p x) (any p xs) h) [
   | inl here ↦ (x, all.0, here)

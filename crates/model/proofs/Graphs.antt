@@ -1,6 +1,6 @@
 -- Graphs: the closure of a relation is what it leads to, and chains without a cycle are short.
 use Rattle.std.proofs.Common.{◌≡◌, ℕ, zero, suc, ◌<◌, ◌≤◌, Bool, true, false, cond, not, ◌&&◌, eqb, List, [], ◌∷◌, length, Decides, sym, refl, subst, inl, inr, arith}
-use Rattle.std.specs.List.{list_all, AllByRecursion as All}
+use Rattle.std.specs.List.{list_all, AllByRecursion}
 use Rattle.std.proofs.ByRecursion.{All-weaker, Decides-by_and}
 use Rattle.std.proofs.lemmas.Bool.{false≢true, not-true, and_parts, and_from, or_cases, or_left, eqb-true, cond_both}
 use Rattle.std.proofs.lemmas.Bool.Decides.{nat_tests, Decides-eqb, Decides-not}
@@ -105,14 +105,14 @@ without_keeps x z (y ∷ ys) d h =
     (λ e. grind (arith, nat_tests, without_keeps x z ys d))
 
 -- members that all differ from x are members without it
-others_stay : (x : ℕ) (zs ys : List ℕ) → list_all (λ z. not (eqb x z)) zs ≡ true → All (λ z. member z ys ≡ true) zs → All (λ z. member z (without x ys) ≡ true) zs
+others_stay : (x : ℕ) (zs ys : List ℕ) → list_all (λ z. not (eqb x z)) zs ≡ true → AllByRecursion (λ z. member z ys ≡ true) zs → AllByRecursion (λ z. member z (without x ys) ≡ true) zs
 others_stay x [] ys d h = tt
 others_stay x (z ∷ zs) ys d h =
     let p = and_parts (not (eqb x z)) (list_all (λ y. not (eqb x y)) zs) d in
     (without_keeps x z ys (not-true (eqb x z) p.0) h.0, others_stay x zs ys p.1 h.1)
 
 -- distinct numbers that are all members of a list are no more than its places
-pub pigeonhole : (xs ys : List ℕ) → is_distinct eqb xs ≡ true → All (λ x. member x ys ≡ true) xs → length xs ≤ length ys
+pub pigeonhole : (xs ys : List ℕ) → is_distinct eqb xs ≡ true → AllByRecursion (λ x. member x ys ≡ true) xs → length xs ≤ length ys
 pigeonhole [] ys d h = omega arith
 pigeonhole (x ∷ xs) ys d h =
     let p = and_parts (list_all (λ y. not (eqb x y)) xs) (is_distinct eqb xs) d in
@@ -134,12 +134,12 @@ below_member zero x h = grind arith
 below_member (suc n) x h = grind (arith, nat_tests, below_member n x)
 
 -- distinct numbers below n are at most n
-pub at_most : (n : ℕ) (xs : List ℕ) → is_distinct eqb xs ≡ true → All (λ x. x < n) xs → length xs ≤ n
+pub at_most : (n : ℕ) (xs : List ℕ) → is_distinct eqb xs ≡ true → AllByRecursion (λ x. x < n) xs → length xs ≤ n
 at_most n xs d h =
     rw length_below at (pigeonhole xs (below n) d (All-weaker (λ x. x < n) (λ x. member x (below n) ≡ true) (below_member n) xs h))
 
 -- each number that a chain steps to is listed
-pub chain_members : (ks : List ℕ) (r : ℕ → ℕ → Bool) → ((a b : ℕ) → r a b ≡ true → member b ks ≡ true) → (a : ℕ) (bs : List ℕ) → Chain r a bs → All (λ b. member b ks ≡ true) bs
+pub chain_members : (ks : List ℕ) (r : ℕ → ℕ → Bool) → ((a b : ℕ) → r a b ≡ true → member b ks ≡ true) → (a : ℕ) (bs : List ℕ) → Chain r a bs → AllByRecursion (λ b. member b ks ≡ true) bs
 chain_members ks r listed a [] c = tt
 chain_members ks r listed a (b ∷ bs) c = (listed a b c.0, chain_members ks r listed b bs c.1)
 
@@ -149,12 +149,12 @@ end_member ks r listed a [] h c = h
 end_member ks r listed a (b ∷ bs) h c = end_member ks r listed b bs (listed a b c.0) c.1
 
 -- a chain leads to each of its numbers
-chain_leads : (r : ℕ → ℕ → Bool) (a : ℕ) (bs : List ℕ) → Chain r a bs → All (Leads r a) bs
+chain_leads : (r : ℕ → ℕ → Bool) (a : ℕ) (bs : List ℕ) → Chain r a bs → AllByRecursion (Leads r a) bs
 chain_leads r a [] c = tt
 chain_leads r a (b ∷ bs) c = (one c.0, All-weaker (Leads r b) (Leads r a) (λ x l. more c.0 l) bs (chain_leads r b bs c.1))
 
 -- the test whether a number differs from each of a list is exact
-differs_from_all : (a : ℕ) (bs : List ℕ) → Decides (list_all (λ b. not (eqb a b)) bs) (All (λ b. a ≡ b → ⊥) bs)
+differs_from_all : (a : ℕ) (bs : List ℕ) → Decides (list_all (λ b. not (eqb a b)) bs) (AllByRecursion (λ b. a ≡ b → ⊥) bs)
 differs_from_all a bs =
     Decides-by_and (λ b. not (eqb a b)) (λ b. a ≡ b → ⊥) (list_all (λ b. not (eqb a b))) (λ b. Decides-not (eqb a b) (Decides-eqb a b)) refl (λ _ _. refl) bs
 

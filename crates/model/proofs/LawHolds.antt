@@ -1,6 +1,6 @@
 -- The law holds of every run.
 use Rattle.std.proofs.Common.{◌≡◌, ◌<◌, ◌≤◌, true, ◌⊎◌, List, [], ◌∷◌, ◌++◌, length, sym, ◌∙◌, subst, inl, inr, ⊎_elim, arith}
-use Rattle.std.specs.List.{list_all, AllByRecursion as All}
+use Rattle.std.specs.List.{list_all, AllByRecursion}
 use Rattle.std.proofs.lemmas.Bool.{and_parts, cases_Bool, both_ways, ltb-true}
 use Rattle.uses.specs.Relations.{Relations, UseLaws}
 use Rattle.orders.specs.Laws.{OrderLaws}
@@ -24,7 +24,7 @@ use Rattle.model.proofs.Keeps.{grounded}
 use Rattle.model.proofs.Steps.{Looked, looks, looks_not, looked, step_detection, step_invariant}
 use Rattle.model.proofs.Grants.{run_invariant, exclusion}
 
-numbers_below : (es : List Opened) → list_all entry_in_range es ≡ true → All (λ n. n < 64) (numbers es)
+numbers_below : (es : List Opened) → list_all entry_in_range es ≡ true → AllByRecursion (λ n. n < 64) (numbers es)
 numbers_below [] h = tt
 numbers_below (e ∷ es) h =
     let parts = and_parts (entry_in_range e) (list_all entry_in_range es) h in (grind (arith, ltb-true, parts.0), numbers_below es parts.1)

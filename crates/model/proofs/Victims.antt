@@ -1,6 +1,6 @@
 -- The first of a set.
 use Rattle.std.proofs.Common.{◌≡◌, ℕ, Bool, true, false, ◌&&◌, ◌||◌, eqb, List, [], ◌∷◌, Some, None, filter, sym, refl, ap, ◌∙◌, subst, ⊎_elim, arith}
-use Rattle.std.specs.List.{list_all, AllByRecursion as All}
+use Rattle.std.specs.List.{list_all, AllByRecursion}
 use Rattle.std.proofs.ByRecursion.{All-weaker}
 use Rattle.std.proofs.lemmas.Bool.{or_cases, or_left, or_right, and_from, eq-eqb, false≢true}
 use Rattle.std.proofs.lemmas.Bool.Decides.{nat_tests}
@@ -9,7 +9,7 @@ use Rattle.model.proofs.Clashes.{clash, nonempty}
 use Rattle.model.proofs.Numbers.{all_pass_wider}
 
 -- the last of a list has what all of the list have
-pub last_all : {X : Type 0} (P : X → Type 0) (xs : List X) (x : X) → All P xs → last xs ≡ Some x → P x
+pub last_all : {X : Type 0} (P : X → Type 0) (xs : List X) (x : X) → AllByRecursion P xs → last xs ≡ Some x → P x
 last_all P [] x h e = absurd (clash (cc))
 last_all P (y ∷ []) x h e = let same : y ≡ x = cc in subst P same h.0
 last_all P (y ∷ (z ∷ zs)) x h e = last_all P (z ∷ zs) x h.1 e
@@ -21,7 +21,7 @@ last_none (y ∷ []) e = absurd (clash (cc))
 last_none (y ∷ (z ∷ zs)) e = absurd (nonempty z zs (last_none (z ∷ zs) e))
 
 -- each of a list is in it
-pub all_members : (xs : List ℕ) → All (λ x. member x xs ≡ true) xs
+pub all_members : (xs : List ℕ) → AllByRecursion (λ x. member x xs ≡ true) xs
 all_members [] = tt
 all_members (x ∷ xs) = (or_left (eqb x x) (member x xs) (eq-eqb x x refl), All-weaker (λ y. member y xs ≡ true) (λ y. member y (x ∷ xs) ≡ true) (λ y h. or_right (eqb x y) (member y xs) h) xs (all_members xs))
 

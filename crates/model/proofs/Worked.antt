@@ -1,11 +1,11 @@
 -- The worked examples are right, by computation.
-use Rattle.std.specs.List.{AllByRecursion as All}
+use Rattle.std.specs.List.{AllByRecursion}
 use Rattle.uses.specs.Spans.{some_field}
 use Rattle.model.specs.Graph.{closure}
 use Rattle.model.specs.Recalling.{on_cycles, recalling_at_most, recalling}
 use Rattle.model.specs.Calls.{step}
 use Rattle.model.specs.Examples.{Right, examples}
 
-pub all_right : All Right examples
+pub all_right : AllByRecursion Right examples
 unfolding step closure on_cycles recalling_at_most recalling some_field
 all_right = search

@@ -1,6 +1,6 @@
 -- Worked examples: runs with every answer and report, and questions to a table of uses. They can be checked by hand.
 use Rattle.std.specs.Prelude.{◌≡◌, ℕ, Bool, true, false, ◌||◌, List, [], ◌∷◌, nat_le, nat_lt}
-use Rattle.std.specs.List.{AllByRecursion as All}
+use Rattle.std.specs.List.{AllByRecursion}
 use Rattle.uses.specs.Relations.{Relations}
 use Rattle.uses.specs.TwoUses.{two_uses}
 use Rattle.uses.specs.FiveUses.{five_uses, IS, IX, S}
@@ -38,7 +38,7 @@ Gives u o s (l ∷ ls) =
 -- the example is right
 abbrev pub Right : Example → Type 0
 Right (played detection u o ls) = Gives u o (new detection) ls
-Right (asked answers) = All (λ a. a.0 ≡ a.1) answers
+Right (asked answers) = AllByRecursion (λ a. a.0 ≡ a.1) answers
 
 -- a call that recalls and wakes nobody
 abbrev pub quiet : Call → Answer → Line

@@ -1,6 +1,6 @@
 -- The theorems, each for every use table and every recall order that keeps its laws.
 use Rattle.std.specs.Prelude.{◌≡◌, ℕ, ◌+◌, ◌≤◌, Bool, true, false, List, [], ◌∷◌, ◌++◌, length, Some, Decides, filter}
-use Rattle.std.specs.List.{AllByRecursion as All}
+use Rattle.std.specs.List.{AllByRecursion}
 use Rattle.uses.specs.Relations.{Relations, UseLaws}
 use Rattle.orders.specs.Laws.{OrderLaws}
 use Rattle.model.specs.Search.{any, member}
@@ -61,4 +61,4 @@ NoNewStep =
 
 -- the worked examples are right
 abbrev pub ExamplesRight : Type 0
-ExamplesRight = All Right examples
+ExamplesRight = AllByRecursion Right examples
