@@ -15,8 +15,8 @@ use Rattle.model.specs.Runs.{Run}
 use Rattle.model.specs.Law.{Law, Iff}
 use Rattle.model.specs.Examples.{examples, Right}
 use Rattle.model.specs.declared.call.Call.{Call}
-use Rattle.model.specs.declared.call.Call.TheVariants.{Claim}
-use Rattle.model.specs.declared.state.Claim.{Claim as Claimed}
+use Rattle.model.specs.declared.call.Call.TheVariants as call
+use Rattle.model.specs.declared.state.Claim.{Claim}
 use Rattle.model.specs.declared.state.Detection.{Detection}
 
 -- the law holds of every run
@@ -52,12 +52,12 @@ ReportFits =
 -- a claim is refused for want of room only where 512 claims stand
 abbrev pub RefusedWhenFull : Type 0
 RefusedWhenFull =
-    (u : Relations) (o : Order) (s : State) → Invariant u s → (d section mode : ℕ) → (step u o s (Claim d section mode)).answer ≡ is_refused 9 → length s.claims ≡ 512
+    (u : Relations) (o : Order) (s : State) → Invariant u s → (d section mode : ℕ) → (step u o s (call.Claim d section mode)).answer ≡ is_refused 9 → length s.claims ≡ 512
 
 -- a claim that nothing blocks adds no step of waiting
 abbrev pub NoNewStep : Type 0
 NoNewStep =
-    (u : Relations) (cs : List Claimed) (c : Claimed) → any (λ b. blocks u b c) cs ≡ false → (d e : ℕ) → waits_for u (cs ++ c ∷ []) d e ≡ waits_for u cs d e
+    (u : Relations) (cs : List Claim) (c : Claim) → any (λ b. blocks u b c) cs ≡ false → (d e : ℕ) → waits_for u (cs ++ c ∷ []) d e ≡ waits_for u cs d e
 
 -- the worked examples are right
 abbrev pub ExamplesRight : Type 0
