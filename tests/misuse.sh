@@ -21,12 +21,14 @@ errors() {
     { grep -o 'error\[[^]]*\]' || true; } | sort -u
 }
 
-# a copy, with what is proved already, so that the libraries are not proved again
-mkdir "$work/repo"
-cp -R "$root/crates.txt" "$root/crates" "$work/repo"
-if [ -d "$root/target" ]; then cp -R "$root/target" "$work/repo"; fi
+# a copy of what cabinet is built on, with what is proved already, so that it is not proved again
+mkdir -p "$work/repo/crates"
 cd "$work/repo"
-needs=$(sed -n 's/^cabinet: //p' crates.txt)
+needs=$(sed -n 's/^cabinet: //p' "$root/crates.txt")
+for crate in $needs; do
+    grep "^$crate:" "$root/crates.txt" >> crates.txt
+    cp -R "$root/crates/$crate" crates
+done
 
 failed=0
 for n in 1 2; do
@@ -35,7 +37,7 @@ for n in 1 2; do
     block rust "$n" > "crates/$name/src/main.rt"
     echo "$name: $needs" >> crates.txt
     said=$(block text "$n" | errors)
-    if rt dev "$name" > "$work/out" 2>&1; then
+    if (cd "crates/$name" && rt check) > "$work/out" 2>&1; then
         got=accepted
     else
         got=$(errors < "$work/out")

@@ -4,7 +4,7 @@
 # Status 0: all is as expected. With scenario names as arguments, only those are run.
 
 root=$(cd "$(dirname "$0")/.." && pwd) || exit 2
-program=$root/target/bin/replay
+program=$root/crates/replay/out/replay
 passed=0
 failed=0
 
@@ -17,13 +17,13 @@ crates_of_replay() {
 # Is the program missing, or older than something that it is made of?
 is_stale() {
     test -x "$program" || return 0
-    newer=$(cd "$root" && find $(crates_of_replay) \( -name '*.rt' -o -name '*.antt' \) -newer "$program" | sed 1q)
+    newer=$(cd "$root" && find $(crates_of_replay) -name out -prune -o \( -name '*.rt' -o -name '*.antt' \) -newer "$program" -print | sed 1q)
     test -n "$newer"
 }
 
 build() {
-    echo 'scenarios: replay is missing or older than its sources: rt check replay' >&2
-    (cd "$root" && rt check replay) >"$scratch/check" 2>&1 && return
+    echo 'scenarios: replay is missing or older than its sources: rt run' >&2
+    (cd "$root/crates/replay" && rt run -- continuous two newest) </dev/null >"$scratch/check" 2>&1 && touch "$program" && return
     tail -n 20 "$scratch/check" >&2
     exit 2
 }

@@ -32,7 +32,7 @@ best() {
 }
 
 lines=$(wc -l < "$work/lines")
-console=$(best "$root/target/bin/console")
+console=$(best "$root/crates/console/out/console")
 tail -n 1 "$work/out"
 baseline=$(best awk '{ print NR " ok" }')
 echo "console: $lines lines in $console us, $((lines * 1000000 / console)) lines a second"

@@ -2,7 +2,7 @@
 ghost use Rattle.std.specs.Prelude.{◌≡◌, true, nat_eq, nat_lt};
 ghost use Rattle.std.specs.List.{list_all};
 ghost use Rattle.lists.specs.Entries.{entries};
-ghost use Rattle.claims.specs.Claims.{claims as claim-list};
+ghost use Rattle.claims.specs.Claims.{claims as claim_list};
 ghost use Rattle.model.specs.Search.{member, is_distinct};
 ghost use Rattle.model.specs.State.{numbers};
 
@@ -25,5 +25,5 @@ pub struct Book<T, O> {
     // open numbers are below 64
     ghost small: { list_all (λ e. nat_lt e.dispatch 64) (entries opened) ≡ true },
     // every claim is of an open dispatch
-    ghost grounded: { list_all (λ c. member c.dispatch (numbers (entries opened))) (claim-list claims) ≡ true },
+    ghost grounded: { list_all (λ c. member c.dispatch (numbers (entries opened))) (claim_list claims) ≡ true },
 }

@@ -1,6 +1,6 @@
 // How the book's tables change.
 ghost use Rattle.std.specs.Prelude.{◌≡◌, ◌<◌, ◌≤◌, true, false, length};
-ghost use Rattle.model.specs.State.{new as new-state, is_open, taken_out, entered, recall as recall-state};
+ghost use Rattle.model.specs.State.{new as new_state, is_open, taken_out, entered, recall as recall_state};
 ghost use Rattle.book.specs.Held.{state};
 
 use crate::book::Book;
@@ -13,7 +13,7 @@ use model::state::{Claim, Detection, Opened};
 impl<T, O> Book<T, O> {
     // A new book. It cannot be refused.
     pub fn new(table: T, order: O, detection: Detection) -> Book<T, O>
-        ensures after { state result ≡ new-state detection }
+        ensures after { state result ≡ new_state detection }
         ensures table { result.table ≡ table }
         ensures order { result.order ≡ order }
     {
@@ -51,7 +51,7 @@ impl<T, O> Book<T, O> {
     // Recalls an open dispatch.
     pub(crate) fn recall(&mut self, dispatch: u8)
         requires { is_open (state self.old) dispatch ≡ true }
-        ensures after { state self.new ≡ recall-state dispatch (state self.old) }
+        ensures after { state self.new ≡ recall_state dispatch (state self.old) }
         ensures table { self.new.table ≡ self.old.table }
         ensures order { self.new.order ≡ self.old.order }
     {

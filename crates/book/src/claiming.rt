@@ -4,7 +4,7 @@ ghost use Rattle.model.specs.Search.{any};
 ghost use Rattle.model.specs.Claims.{blocks, dispatch_waits};
 ghost use Rattle.model.specs.State.{is_open, entered};
 ghost use Rattle.model.specs.Recalling.{recalling};
-ghost use Rattle.model.specs.Calls.{filled, woken, claimed, after_entry, claim_answer as answer-to, is_granted, is_waiting, is_recalled};
+ghost use Rattle.model.specs.Calls.{filled, woken, claimed, after_entry, claim_answer as answer_to, is_granted, is_waiting, is_recalled};
 ghost use Rattle.book.specs.Held.{state};
 ghost use Rattle.book.specs.Said.{said};
 
@@ -34,7 +34,7 @@ impl<T: UseTable, O: RecallOrder> Book<T, O> {
         requires here { is_open (state self.old) claim.dispatch ≡ true }
         requires room { length (state self.old).claims < 512 }
         requires clear { report.old ≡ filled [] [] }
-        ensures answer { said (Ok result) ≡ answer-to (T.UseTable.meaning self.old.table) claim.dispatch (recalling (T.UseTable.meaning self.old.table) (O.RecallOrder.meaning self.old.order) (entered claim (state self.old))) }
+        ensures answer { said (Ok result) ≡ answer_to (T.UseTable.meaning self.old.table) claim.dispatch (recalling (T.UseTable.meaning self.old.table) (O.RecallOrder.meaning self.old.order) (entered claim (state self.old))) }
         ensures after { state self.new ≡ (recalling (T.UseTable.meaning self.old.table) (O.RecallOrder.meaning self.old.order) (entered claim (state self.old))).state }
         ensures named { report.new ≡ filled (recalling (T.UseTable.meaning self.old.table) (O.RecallOrder.meaning self.old.order) (entered claim (state self.old))).recalls (woken (T.UseTable.meaning self.old.table) (state self.old) (recalling (T.UseTable.meaning self.old.table) (O.RecallOrder.meaning self.old.order) (entered claim (state self.old))).state) }
         ensures table { self.new.table ≡ self.old.table }

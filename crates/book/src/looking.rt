@@ -4,9 +4,9 @@ ghost use Rattle.marks.specs.Marks.{marked};
 ghost use Rattle.cycles.specs.Rows.{relation};
 ghost use Rattle.model.specs.Claims.{waits_for};
 ghost use Rattle.model.specs.State.{numbers};
-ghost use Rattle.model.specs.Recalling.{summary as summary-of, first, on_cycles};
+ghost use Rattle.model.specs.Recalling.{summary as summary_of, first, on_cycles};
 ghost use Rattle.book.specs.Held.{state};
-ghost use Rattle.book.specs.Better.{better as better-of};
+ghost use Rattle.book.specs.Better.{better as better_of};
 
 use crate::book::Book;
 use crate::opened::{standing, weight};
@@ -29,7 +29,7 @@ impl<T: UseTable, O: RecallOrder> Book<T, O> {
 
     // What the recall order sees of the dispatch.
     fn summary(&self, dispatch: u8) -> Summary
-        ensures { result ≡ summary-of (T.UseTable.meaning self.now.table) (state self.now) dispatch }
+        ensures { result ≡ summary_of (T.UseTable.meaning self.now.table) (state self.now) dispatch }
     {
         let opened = self.opened.rows();
         Summary {
@@ -41,7 +41,7 @@ impl<T: UseTable, O: RecallOrder> Book<T, O> {
 
     // The dispatch, if it goes no later than the best so far.
     fn better(&self, dispatch: u8, best: Option<u8>) -> u8
-        ensures { result ≡ better-of (T.UseTable.meaning self.now.table) (O.RecallOrder.meaning self.now.order) (state self.now) dispatch best }
+        ensures { result ≡ better_of (T.UseTable.meaning self.now.table) (O.RecallOrder.meaning self.now.order) (state self.now) dispatch best }
     {
         let Some(b) = best else {
             return dispatch;

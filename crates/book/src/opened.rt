@@ -2,7 +2,7 @@
 ghost use Rattle.std.specs.Prelude.{◌≡◌, ◌≤◌, not, length, ◌==◌};
 ghost use Rattle.model.specs.Search.{member};
 ghost use Rattle.model.specs.State.{numbers};
-ghost use Rattle.model.specs.Recalling.{standing as standing-of, weight as weight-of};
+ghost use Rattle.model.specs.Recalling.{standing as standing_of, weight as weight_of};
 
 use lists::test::Test;
 use model::state::Opened;
@@ -36,7 +36,7 @@ pub fn is_listed(opened: &[Opened], dispatch: u8) -> bool
 // How many were opened before the dispatch.
 pub fn standing(opened: &[Opened], dispatch: u8) -> u32
     requires { length opened.now ≤ 64 }
-    ensures { result ≡ standing-of opened.now dispatch }
+    ensures { result ≡ standing_of opened.now dispatch }
 {
     let mut before = 0;
     for e in opened {
@@ -50,7 +50,7 @@ pub fn standing(opened: &[Opened], dispatch: u8) -> u32
 
 // The weight of the dispatch.
 pub fn weight(opened: &[Opened], dispatch: u8) -> u32
-    ensures { result ≡ weight-of opened.now dispatch }
+    ensures { result ≡ weight_of opened.now dispatch }
 {
     for e in opened {
         if e.dispatch == dispatch {

@@ -1,7 +1,7 @@
 // The three questions.
 ghost use Rattle.std.specs.Prelude.{◌≡◌, [], ◌∷◌};
 ghost use Rattle.marks.specs.Marks.{marked};
-ghost use Rattle.model.specs.Questions.{condition as condition-of, waited_for as waited-for-by, holders as holders-of};
+ghost use Rattle.model.specs.Questions.{condition as condition_of_lem, waited_for as waited_for_by, holders as holders_of};
 ghost use Rattle.model.specs.Calls.{refusal, number_too_high, section_too_high};
 ghost use Rattle.book.specs.Asked.{condition_answered};
 ghost use Rattle.book.specs.Held.{state};
@@ -23,7 +23,7 @@ pub struct Standing {
 
 impl<T: UseTable, O> Book<T, O> {
     fn condition_of(&self, dispatch: u8) -> Condition
-        ensures { result ≡ condition-of (T.UseTable.meaning self.now.table) (state self.now) dispatch }
+        ensures { result ≡ condition_of_lem (T.UseTable.meaning self.now.table) (state self.now) dispatch }
     {
         if self.recalled.contains(dispatch) {
             Condition::Recalled
@@ -50,7 +50,7 @@ impl<T: UseTable, O> Book<T, O> {
     // Marks the dispatches for which the dispatch waits. Refused by 1, and then all marks are off.
     pub fn waited_for(&self, dispatch: u32, marks: &mut Marks) -> Result<(), Refusal>
         ensures answered { Verdict result (refusal (number_too_high dispatch ∷ [])) (λ _. Unit {0}) }
-        ensures found { marked marks.new ≡ waited-for-by (T.UseTable.meaning self.now.table) (state self.now) dispatch }
+        ensures found { marked marks.new ≡ waited_for_by (T.UseTable.meaning self.now.table) (state self.now) dispatch }
     {
         *marks = Marks::none();
         let number = number(dispatch)?;
@@ -61,7 +61,7 @@ impl<T: UseTable, O> Book<T, O> {
     // Marks the dispatches with a held claim on the section. Refused by 2, and then all marks are off.
     pub fn holders(&self, section: u32, marks: &mut Marks) -> Result<(), Refusal>
         ensures answered { Verdict result (refusal (section_too_high section ∷ [])) (λ _. Unit {0}) }
-        ensures found { marked marks.new ≡ holders-of (T.UseTable.meaning self.now.table) (state self.now) section }
+        ensures found { marked marks.new ≡ holders_of (T.UseTable.meaning self.now.table) (state self.now) section }
     {
         *marks = Marks::none();
         let section = section_number(section)?;

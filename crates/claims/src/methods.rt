@@ -2,7 +2,7 @@
 ghost use Rattle.std.specs.Prelude.{◌≡◌, ◌<◌, [], ◌∷◌, ◌++◌, length};
 ghost use Rattle.claims.specs.Claims.{claims};
 ghost use Rattle.marks.specs.Marks.{marked};
-ghost use Rattle.model.specs.Claims.{without, covered, blocks, waiting_section, held as held-claims, waits_for, holds};
+ghost use Rattle.model.specs.Claims.{without, covered, blocks, waiting_section, held as held_claims, waits_for, holds};
 ghost use Rattle.model.specs.Search.{any};
 
 use crate::claim_table::ClaimTable;
@@ -74,7 +74,7 @@ impl ClaimTable {
 
     // How many claims of the dispatch are held (granted).
     pub fn held<T: UseTable>(&self, table: &T, d: u8) -> u32
-        ensures { result ≡ held-claims (T.UseTable.meaning table.now) (claims self.now) d }
+        ensures { result ≡ held_claims (T.UseTable.meaning table.now) (claims self.now) d }
     {
         search::held(table, self.list.rows(), d)
     }

@@ -1,6 +1,6 @@
 // Looking through the claim list.
 ghost use Rattle.std.specs.Prelude.{◌≡◌, ◌≤◌, length};
-ghost use Rattle.model.specs.Claims.{covered, held as held-claims, waiting_section, blocks as blocking};
+ghost use Rattle.model.specs.Claims.{covered, held as held_claims, waiting_section, blocks as blocking};
 ghost use Rattle.model.specs.Search.{any};
 
 use crate::pairs::{blocks, serves};
@@ -47,7 +47,7 @@ pub fn waiting<T: UseTable>(table: &T, claims: &[Claim], d: u8) -> Option<u16>
 // How many claims of the dispatch are held.
 pub fn held<T: UseTable>(table: &T, claims: &[Claim], d: u8) -> u32
     requires { length claims.now ≤ 512 }
-    ensures { result ≡ held-claims (T.UseTable.meaning table.now) claims.now d }
+    ensures { result ≡ held_claims (T.UseTable.meaning table.now) claims.now d }
 {
     let mut n = 0;
     for (i, c) in claims.iter().enumerate() {

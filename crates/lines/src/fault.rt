@@ -1,6 +1,6 @@
 // Faults, as they pass up to the console.
 ghost use Rattle.std.specs.Prelude.{◌≡◌};
-ghost use Rattle.lines.specs.Faults.{line_fault, of_refusal, field, layer as layer-of};
+ghost use Rattle.lines.specs.Faults.{line_fault, of_refusal, field, layer as layer_of};
 ghost use Rattle.book.specs.Said.{number as number_of_lem};
 
 use book::answers::Refusal;
@@ -103,7 +103,7 @@ fn field_of(refusal: Refusal) -> u8
 
 // Who refused.
 fn refused_by(refusal: Refusal) -> Layer
-    ensures { result ≡ layer-of refusal }
+    ensures { result ≡ layer_of refusal }
 {
     match refusal {
         Refusal::NotKnown => Layer::UseTable,

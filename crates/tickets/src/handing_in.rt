@@ -1,6 +1,6 @@
 // Handing a ticket in.
 ghost use Rattle.std.specs.Prelude.{◌≡◌, true};
-ghost use Rattle.model.specs.Questions.{condition as condition-of};
+ghost use Rattle.model.specs.Questions.{condition as condition_of_lem};
 ghost use Rattle.model.specs.Runs.{Run, at};
 ghost use Rattle.model.specs.State.{is_free};
 ghost use Rattle.book.specs.Carried.{CarriedOut, RunGoesOn};
@@ -56,9 +56,9 @@ impl Ticket {
         book: &mut Book<T, O>,
         report: &mut Report,
     ) -> Result<Ending, Refusal>
-        ensures ended { result ≡ ending (condition-of (T.UseTable.meaning book.old.table) (state book.old) self.dispatch) }
-        ensures done { CarriedOut (T.UseTable.meaning book.old.table) (O.RecallOrder.meaning book.old.order) (state book.old) (hand_in (condition-of (T.UseTable.meaning book.old.table) (state book.old) self.dispatch) self.dispatch) (booked result) report.new (state book.new) }
-        ensures law { (run : Run) → at (T.UseTable.meaning book.old.table) (O.RecallOrder.meaning book.old.order) run ≡ state book.old → RunGoesOn (T.UseTable.meaning book.old.table) (O.RecallOrder.meaning book.old.order) (state book.old) (hand_in (condition-of (T.UseTable.meaning book.old.table) (state book.old) self.dispatch) self.dispatch) (booked result) report.new (state book.new) run }
+        ensures ended { result ≡ ending (condition_of_lem (T.UseTable.meaning book.old.table) (state book.old) self.dispatch) }
+        ensures done { CarriedOut (T.UseTable.meaning book.old.table) (O.RecallOrder.meaning book.old.order) (state book.old) (hand_in (condition_of_lem (T.UseTable.meaning book.old.table) (state book.old) self.dispatch) self.dispatch) (booked result) report.new (state book.new) }
+        ensures law { (run : Run) → at (T.UseTable.meaning book.old.table) (O.RecallOrder.meaning book.old.order) run ≡ state book.old → RunGoesOn (T.UseTable.meaning book.old.table) (O.RecallOrder.meaning book.old.order) (state book.old) (hand_in (condition_of_lem (T.UseTable.meaning book.old.table) (state book.old) self.dispatch) self.dispatch) (booked result) report.new (state book.new) run }
         ensures freed { (run : Run) → at (T.UseTable.meaning book.old.table) (O.RecallOrder.meaning book.old.order) run ≡ state book.old → is_free (state book.new) self.dispatch ≡ true }
         ensures table { book.new.table ≡ book.old.table }
         ensures order { book.new.order ≡ book.old.order }
