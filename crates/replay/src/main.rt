@@ -5,6 +5,7 @@ mod arguments;
 
 use crate::arguments::read_setting;
 use choices::setting::{Setting, Wrong};
+use std::process::ExitCode;
 use std::{env, io};
 use transcripts::console::Console;
 use transcripts::serving::serve;
@@ -15,21 +16,21 @@ const USAGE: &str = "usage: replay DETECTION TABLE ORDER[,ORDER]
     TABLE      two, five or span
     ORDER      newest, lightest or fewest";
 
-// Says what is wrong with the arguments. A program that ends with an error prints nothing of it, and
-// has status 1.
-fn complain(rt: &HostRuntime, wrong: Wrong) -> io::Result<()> {
+// Says what is wrong with the arguments.
+fn complain(rt: &HostRuntime, wrong: Wrong) -> io::Result<ExitCode> {
     eprintln!(rt; "replay: {wrong}")?;
     eprintln!(rt; "{USAGE}")?;
-    Err(io::Error::from(io::ErrorKind::InvalidInput))
+    Ok(ExitCode::FAILURE)
 }
 
 // Serves standard input with the book of a setting.
-fn replay(rt: &HostRuntime, setting: Setting) -> io::Result<()> {
+fn replay(rt: &HostRuntime, setting: Setting) -> io::Result<ExitCode> {
     let mut console = Console::new(setting.table, setting.order, setting.detection);
-    serve(rt, &mut console)
+    serve(rt, &mut console)?;
+    Ok(ExitCode::SUCCESS)
 }
 
-fn main(rt: HostRuntime) -> io::Result<()> {
+fn main(rt: HostRuntime) -> io::Result<ExitCode> {
     let Ok(args) = env::args(&rt) else {
         return complain(&rt, Wrong::Unreadable);
     };

@@ -1,4 +1,4 @@
--- How a hand_in ends.
+-- How a hand-in ends.
 use Rattle.std.proofs.Common.{◌≡◌, ℕ, ◌≤◌, true, false, Some, None, Ok, Err, Option, Result, sym, refl, ap, ◌∙◌, subst, arith}
 use Rattle.std.proofs.lemmas.Bool.Decides.{nat_tests}
 use Rattle.uses.specs.Relations.{Relations, UseLaws}
@@ -46,7 +46,7 @@ apart v n p q = cc
 same : (v : Option ℕ) (m n : ℕ) → v ≡ Some m → v ≡ Some n → m ≡ n
 same v m n p q = cc
 
--- the verdict of the checks of a hand_in
+-- the verdict of the checks of a hand-in
 abbrev verdict : Condition → Option ℕ
 verdict Running = None
 verdict Waiting = None
@@ -58,7 +58,7 @@ module _ (u : Relations) (s : State) (d : ℕ) (small : d ≤ 63) where
   pub condition_told : (k : Condition) (waits : Option ℕ) → condition_asked u s d ≡ Ok (k, waits) → condition u s d ≡ k
   condition_told k waits h = grind (arith, nat_tests)
 
-  -- a hand_in passes its checks, but of a free number
+  -- a hand-in passes its checks, but of a free number
   checked : (k : Condition) → condition u s d ≡ k → refusal (checks u s (hand_in k d)) ≡ verdict k
   checked Running is = grind (arith, nat_tests)
   checked Waiting is = grind (arith, nat_tests)
@@ -70,7 +70,7 @@ module _ (u : Relations) (s : State) (d : ℕ) (small : d ≤ 63) where
   ended_as k is y says = says ∙ ap ending (sym is)
 
   module _ (o : Order) (r : Report) (t : State) where
-    -- a hand_in that is refused says that the number is free
+    -- a hand-in that is refused says that the number is free
     pub refused_free : (k : Condition) → condition u s d ≡ k → (e : Refusal) → CarriedOut u o s (hand_in k d) (Err e) r t → ◌≡◌ {A = Result Ending Refusal} (Err e) (ending k)
     refused_free Running is e h = apart (refusal (checks u s (call.Close d))) (number e) (checked Running is) (failed u o s (call.Close d) r t e refl h)
     refused_free Waiting is e h = apart (refusal (checks u s (call.Withdraw d))) (number e) (checked Waiting is) (failed u o s (call.Withdraw d) r t e refl h)
@@ -79,7 +79,7 @@ module _ (u : Relations) (s : State) (d : ℕ) (small : d ≤ 63) where
         let seven = same (refusal (checks u s (call.Close d))) (number e) 7 (failed u o s (call.Close d) r t e refl h) (checked Free is) in
         ap (λ (x : Refusal). Err x) (seventh e seven)
 
-    -- a hand_in that is answered is an ending
+    -- a hand-in that is answered is an ending
     pub answered_ended : (k : Condition) → condition u s d ≡ k → (a : Answer) (y : Result Ending Refusal) → y ≡ ending k → CarriedOut u o s (hand_in k d) (Ok a) r t → CarriedOut u o s (hand_in k d) (booked y) r t
     answered_ended k is a y says h = subst (λ (x : Result Ending Refusal). CarriedOut u o s (hand_in k d) (booked x) r t) (sym says) (by_condition k is h)
       where
@@ -95,7 +95,7 @@ module _ (u : Relations) (s : State) (d : ℕ) (small : d ≤ 63) where
     pub made_as : (k : Condition) → condition u s d ≡ k → (a : Result Answer Refusal) → CarriedOut u o s (hand_in k d) a r t → CarriedOut u o s (hand_in (condition u s d) d) a r t
     made_as k is a h = subst (λ (x : Condition). CarriedOut u o s (hand_in x d) a r t) (sym is) h
 
-    -- after a hand_in the number is free
+    -- after a hand-in the number is free
     pub free_after : (k : Condition) → condition u s d ≡ k → (s.recalled d ≡ true → is_open s d ≡ false) → (a : Result Answer Refusal) → CarriedOut u o s (hand_in k d) a r t → is_free t d ≡ true
     free_after Running is never_both a h =
         let gone = open_closed d d s.opened in
@@ -114,7 +114,7 @@ module _ (u : Relations) (s : State) (d : ℕ) (small : d ≤ 63) where
         let free : is_free s d ≡ true = grind (arith, nat_tests) in
         ap (λ (x : State). is_free x d) (left_by u o s (call.Close d) r t a h (Some 7) (checked Free is)) ∙ free
 
--- in a book that a run has led to, after a hand_in the number is free
+-- in a book that a run has led to, after a hand-in the number is free
 pub freed : (u : Relations) → UseLaws u → (o : Order) → OrderLaws o → (s : State) (d : ℕ) → d ≤ 63 → (r : Report) (t : State) (a : Result Answer Refusal) → CarriedOut u o s (hand_in (condition u s d) d) a r t → (run : Run) → at u o run ≡ s → is_free t d ≡ true
 freed u laws o lawful s d small r t a h run is =
     let invariant = subst (Invariant u) is (run_invariant u laws o lawful run) in

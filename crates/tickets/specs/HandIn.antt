@@ -9,14 +9,14 @@ use Rattle.book.specs.declared.answers.Refusal.TheVariants.{IsFree}
 use Rattle.tickets.specs.declared.ticket.Ending.{Ending}
 use Rattle.tickets.specs.declared.ticket.Ending.TheVariants.{Closed, Withdrawn, Acknowledged}
 
--- the call that a hand_in counts as
+-- the call that a hand-in counts as
 abbrev pub hand_in : Condition → ℕ → Call
 hand_in Running d = Close d
 hand_in Waiting d = Withdraw d
 hand_in Recalled d = Acknowledge d
 hand_in Free d = Close d
 
--- what a hand_in says: which ending it was, or that the number is free
+-- what a hand-in says: which ending it was, or that the number is free
 abbrev pub ending : Condition → Result Ending Refusal
 ending Running = Ok Closed
 ending Waiting = Ok Withdrawn
