@@ -1,15 +1,19 @@
 -- From the parts of a call to what it promises.
-use Rattle.std.proofs.Common.{◌≡◌, ℕ, [], Some, None, Ok, Err, Option, sym, refl, ap, ◌∙◌}
+use Rattle.std.proofs.Common.{◌≡◌, ℕ, [], Some, None, Ok, Err, Option, Result, sym, refl, ap, ◌∙◌, subst}
 use Rattle.uses.specs.Relations.{Relations}
-use Rattle.model.specs.State.{State}
+use Rattle.orders.specs.Laws.{OrderLaws}
+use Rattle.model.specs.State.{State, taken_out}
 use Rattle.model.specs.Recalling.{Order}
-use Rattle.model.specs.Calls.{Outcome, Effect, checks, refusal, accepted, effect, woken, with_wakes, step, filled, report}
+use Rattle.model.specs.Calls.{Outcome, Effect, checks, refusal, accepted, effect, woken, with_wakes, step, filled, report, plain, is_ok}
+use Rattle.model.specs.Invariant.{Invariant}
 use Rattle.model.specs.declared.call.Call.{Call}
 use Rattle.model.specs.declared.report.Report.{Report}
+use Rattle.model.proofs.Steps.{step_invariant}
 use Rattle.model.proofs.Wakes.{woken_same}
 use Rattle.book.specs.Said.{number, said}
 use Rattle.book.specs.Carried.{CarriedOut}
 use Rattle.book.specs.declared.answers.Answer.{Answer}
+use Rattle.book.specs.declared.answers.Answer.TheVariants as answer
 use Rattle.book.specs.declared.answers.Refusal.{Refusal}
 
 module _ (u : Relations) (o : Order) (s : State) (c : Call) where
@@ -37,3 +41,17 @@ module _ (u : Relations) (o : Order) (s : State) (c : Call) where
         reported = is ∙ sym (ap (λ (x : Outcome). report x) stepped);
         left = same ∙ sym (ap (λ (x : Outcome). x.state) stepped);
       }
+
+  -- a call that is accepted, wakes nobody and recalls nobody
+  pub carried_plain : (r : Report) (t t' : State) → refusal (checks u s c) ≡ None → accepted u o s c ≡ plain t' is_ok → woken u s t' ≡ [] → r ≡ filled [] [] → t ≡ t' → CarriedOut u o s c (Ok answer.Ok) r t
+  carried_plain r t t' h does nobody is same =
+      carried_accepted answer.Ok (plain t' is_ok) r t h does refl (is ∙ ap (filled []) (sym nobody)) same
+
+  -- a call that ends a dispatch
+  pub carried_end : (d n : ℕ) (r : Report) (t : State) → refusal (checks u s c) ≡ None → accepted u o s c ≡ plain (taken_out d s) is_ok → n ≡ d → r ≡ filled [] (woken u s (taken_out n s)) → t ≡ taken_out n s → CarriedOut u o s c (Ok answer.Ok) r t
+  carried_end d n r t h does at is same =
+      carried_accepted answer.Ok (plain (taken_out d s) is_ok) r t h does refl (is ∙ ap (λ (k : ℕ). filled [] (woken u s (taken_out k s))) at) (same ∙ ap (λ (k : ℕ). taken_out k s) at)
+
+-- what is carried out keeps the invariant
+pub kept : (u : Relations) (o : Order) → OrderLaws o → (s : State) (c : Call) {a : Result Answer Refusal} {r : Report} {t : State} → Invariant u s → CarriedOut u o s c a r t → Invariant u t
+kept u o lawful s c i carried = subst (Invariant u) (sym carried.left) (step_invariant u o lawful s i c)

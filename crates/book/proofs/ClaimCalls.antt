@@ -1,5 +1,5 @@
 -- A claim call, by the way it goes.
-use Rattle.std.proofs.Common.{◌≡◌, ℕ, ◌<◌, ◌≤◌, true, false, List, [], ◌∷◌, length, None, Ok, Err, Result, sym, refl, ap, ◌∙◌, arith}
+use Rattle.std.proofs.Common.{◌≡◌, ℕ, ◌<◌, ◌≤◌, true, false, List, [], ◌∷◌, length, None, Ok, Err, Result, sym, refl, ap, ◌∙◌, subst, arith}
 use Rattle.std.proofs.lemmas.Bool.{cond-true, cond-false}
 use Rattle.std.proofs.lemmas.Bool.Decides.{nat_tests}
 use Rattle.uses.specs.Relations.{Relations}
@@ -16,6 +16,7 @@ use Rattle.model.specs.declared.state.Claim.{Claim}
 use Rattle.model.specs.declared.state.Detection.TheVariants.{Continuous}
 use Rattle.model.proofs.Wakes.{woken_same, woken_entered}
 use Rattle.book.specs.Carried.{CarriedOut}
+use Rattle.book.specs.Entered.{EntersWith}
 use Rattle.book.specs.Said.{said}
 use Rattle.book.specs.declared.answers.Answer.{Answer}
 use Rattle.book.specs.declared.answers.Answer.TheVariants as answer
@@ -72,3 +73,29 @@ module _ (u : Relations) (o : Order) (s : State) (x : Claim) (passed : refusal (
         let runs = passed_runs u s x.dispatch x.section x.mode passed in
         let g = steady_grounded (entered x s) (steady_entered s.opened s.claims x here w) in
         carried_entered answer.Granted r t _ (unblocked_does u o lawful s x runs free g (steady_few s w) s.detection clear) refl (is ∙ ap (filled []) (sym (woken_entered u s x))) same
+
+-- a claim that was checked is the one that was asked for: what is shown of the checked one is shown of the call
+module _ (u : Relations) (o : Order) (s : State) (x y : Claim) (checked : (refusal (first_checks u s y.dispatch y.section y.mode) ≡ None) × (x ≡ y)) where
+  passed_at : refusal (first_checks u s x.dispatch x.section x.mode) ≡ None
+  passed_at = subst (λ (z : Claim). refusal (first_checks u s z.dispatch z.section z.mode) ≡ None) (sym checked.1) checked.0
+
+  carried_at : (a : Result Answer Refusal) (r : Report) (t : State) → CarriedOut u o s (call.Claim x.dispatch x.section x.mode) a r t → CarriedOut u o s (call.Claim y.dispatch y.section y.mode) a r t
+  carried_at a r t h = subst (λ (z : Claim). CarriedOut u o s (call.Claim z.dispatch z.section z.mode) a r t) checked.1 h
+
+  -- it is covered
+  pub asked_covered : (r : Report) → true ≡ covered u s.claims x.dispatch x.section x.mode → r ≡ filled [] [] → CarriedOut u o s (call.Claim y.dispatch y.section y.mode) (Ok answer.Covered) r s
+  asked_covered r cover is = carried_at (Ok answer.Covered) r s (carried_covered u o s x passed_at r (sym cover) is)
+
+  module _ (new : false ≡ covered u s.claims x.dispatch x.section x.mode) where
+    -- there is no room
+    pub asked_no_room : (r : Report) → 512 ≤ length s.claims → r ≡ filled [] [] → CarriedOut u o s (call.Claim y.dispatch y.section y.mode) (Err NoRoom) r s
+    asked_no_room r full is = carried_at (Err NoRoom) r s (carried_no_room u o s x passed_at r (sym new) full is)
+
+    module _ (room : length s.claims < 512) where
+      -- nothing blocks it
+      pub asked_granted : OrderLaws o → Steady s.opened s.claims → (r : Report) (t : State) → any (λ b. blocks u b x) s.claims ≡ false → (s.detection ≡ Continuous → NoCycle u s) → r ≡ filled [] [] → t ≡ entered x s → CarriedOut u o s (call.Claim y.dispatch y.section y.mode) (Ok answer.Granted) r t
+      asked_granted lawful w r t free clear is same = carried_at (Ok answer.Granted) r t (carried_granted u o s x passed_at (sym new) room lawful w r t free clear is same)
+
+      -- it is blocked
+      pub asked_blocked : (a : Answer) (r : Report) (t : State) → EntersWith u s x (after_entry u o s.detection (entered x s)) a r t → CarriedOut u o s (call.Claim y.dispatch y.section y.mode) (Ok a) r t
+      asked_blocked a r t does = carried_at (Ok a) r t (carried_entered u o s x passed_at (sym new) room a r t (claimed u x.dispatch (after_entry u o s.detection (entered x s))) refl does.answered does.named does.left)

@@ -6,9 +6,10 @@ use Rattle.orders.specs.Laws.{OrderLaws}
 use Rattle.model.specs.Search.{any}
 use Rattle.model.specs.Claims.{blocks, waits_for, dispatch_waits}
 use Rattle.model.specs.State.{State, is_open, entered}
-use Rattle.model.specs.Recalling.{Order, Named, nobody, first, on_cycles, recalling}
+use Rattle.model.specs.Recalling.{Order, nobody, first, on_cycles, recalling}
 use Rattle.model.specs.Calls.{Answer, Check, refusal, Effect, claimed, claim_answer, is_named, after_entry, is_granted, is_waiting, is_recalled}
 use Rattle.model.specs.Invariant.{NoCycle}
+use Rattle.model.specs.declared.report.Named.{Named}
 use Rattle.model.specs.declared.state.Claim.{Claim}
 use Rattle.model.specs.declared.state.Detection.{Detection}
 use Rattle.model.specs.declared.state.Detection.TheVariants.{Continuous, Periodic}
@@ -85,15 +86,6 @@ module _ (u : Relations) (o : Order) (lawful : OrderLaws o) where
         let waits : dispatch_waits u (s.claims ++ c ∷ []) c.dispatch ≡ true = pushed ∙ grind (arith, nat_tests, taken) in
         ap by_waiting waits
 
--- recalling is the same for the same table, order and state
-pub recalling_same : (u u' : Relations) (o o' : Order) (s s' : State) → u ≡ u' → o ≡ o' → s ≡ s' → recalling u o s ≡ recalling u' o' s'
-recalling_same u u' o o' s s' same_u same_o same_s =
-    ap (λ (x : Relations). recalling x o s) same_u ∙ (ap (λ (x : Order). recalling u' x s) same_o ∙ ap (recalling u' o') same_s)
-
 -- how a claimant stands, by a table and a state
 abbrev pub stands : Relations → ℕ → State → Answer
 stands u d s = cond (is_open s d) (cond (dispatch_waits u s.claims d) is_waiting is_granted) is_recalled
-
--- a claimant stands the same for the same table and state
-pub stands_same : (u u' : Relations) (d : ℕ) (s s' : State) → u ≡ u' → s ≡ s' → stands u d s ≡ stands u' d s'
-stands_same u u' d s s' same_u same_s = ap (λ (x : Relations). stands x d s) same_u ∙ ap (stands u' d) same_s

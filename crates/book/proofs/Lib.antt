@@ -1,4 +1,4 @@
-pub mod Places
+pub mod Made
 pub mod Openings
 pub mod Steady
 pub mod Victims

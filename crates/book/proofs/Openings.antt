@@ -1,30 +1,37 @@
 -- Looking through the open list.
-use Rattle.std.proofs.Common.{◌≡◌, ℕ, suc, ◌+◌, ◌<◌, ◌≤◌, cond, ◌||◌, eqb, List, [], length, get_or, drop}
-use Rattle.std.proofs.lemmas.List.{at_drop_more, at_drop_all}
-use Rattle.model.specs.Search.{member}
+use Rattle.std.proofs.Common.{◌≡◌, ℕ, Bool, cond, not, ◌||◌, eqb, ltb, List, [], ◌∷◌, length, Some, None, Option, unwrap_or, refl, ap, arith}
+use Rattle.std.specs.List.{position_or_len, find}
+use Rattle.std.proofs.lemmas.Bool.Decides.{nat_tests}
+use Rattle.std.proofs.lemmas.List.Sums.{prefix_len-le-length}
+use Rattle.model.specs.Search.{any, member}
 use Rattle.model.specs.State.{numbers}
 use Rattle.model.specs.Recalling.{standing, weight}
 use Rattle.model.specs.declared.state.Opened.{Opened}
 
-module _ (xs : List Opened) (d i : ℕ) where
-  -- the entry at i
-  abbrev here : Opened
-  here = get_or xs i (record { dispatch = 0; weight = 0 })
+-- the entry is the dispatch's
+abbrev pub is_of : ℕ → Opened → Bool
+is_of d e = eqb e.dispatch d
 
-  pub listed_more : i < length xs → member d (numbers (drop i xs)) ≡ (eqb here.dispatch d || member d (numbers (drop (i + 1) xs)))
-  listed_more h = at_drop_more (λ es. member d (numbers es)) xs i (record { dispatch = 0; weight = 0 }) h
+-- an entry of the dispatch is found exactly where its number is listed
+pub listed_is : (d : ℕ) (es : List Opened) → any (is_of d) es ≡ member d (numbers es)
+listed_is d [] = refl
+listed_is d (e ∷ es) = ap (λ b. is_of d e || b) (listed_is d es)
 
-  pub listed_all : length xs ≤ i → member d (numbers (drop i xs)) ≡ member d []
-  listed_all h = at_drop_all (λ es. member d (numbers es)) xs i h
+-- its standing is its place
+place_is : (d : ℕ) (es : List Opened) → position_or_len (is_of d) es ≡ standing es d
+place_is d [] = refl
+place_is d (e ∷ es) = let rest = place_is d es in grind (arith, nat_tests, rest)
 
-  pub standing_more : i < length xs → standing (drop i xs) d ≡ cond (eqb here.dispatch d) 0 (suc (standing (drop (i + 1) xs) d))
-  standing_more h = at_drop_more (λ es. standing es d) xs i (record { dispatch = 0; weight = 0 }) h
+-- as `position` finds it, or the length
+pub standing_is : (d : ℕ) (es : List Opened) → unwrap_or (cond (ltb (position_or_len (is_of d) es) (length es)) (Some (position_or_len (is_of d) es)) None) (length es) ≡ standing es d
+standing_is d es = let h = prefix_len-le-length (λ e. not (is_of d e)) es in let place = place_is d es in grind (arith, nat_tests, h, place)
 
-  pub standing_all : length xs ≤ i → standing (drop i xs) d ≡ 0
-  standing_all h = at_drop_all (λ es. standing es d) xs i h
+-- the weight of the entry that was found
+abbrev pub weight_found : Option Opened → ℕ
+weight_found None = 0
+weight_found (Some e) = e.weight
 
-  pub weight_more : i < length xs → weight (drop i xs) d ≡ cond (eqb here.dispatch d) here.weight (weight (drop (i + 1) xs) d)
-  weight_more h = at_drop_more (λ es. weight es d) xs i (record { dispatch = 0; weight = 0 }) h
-
-  pub weight_all : length xs ≤ i → weight (drop i xs) d ≡ 0
-  weight_all h = at_drop_all (λ es. weight es d) xs i h
+-- the first entry of the dispatch has its weight
+pub weight_is : (d : ℕ) (es : List Opened) → weight_found (find (is_of d) es) ≡ weight es d
+weight_is d [] = refl
+weight_is d (e ∷ es) = let rest = weight_is d es in grind (arith, nat_tests, rest)

@@ -2,6 +2,7 @@
 use Rattle.std.proofs.Common.{◌≡◌, ℕ, ◌<◌, ◌≤◌, true, false, not, eqb, ltb, List, [], ◌∷◌, ◌++◌, length, get_or, ap, ◌∙◌, arith}
 use Rattle.std.specs.List.{list_all, AllByRecursion}
 use Rattle.std.proofs.lemmas.List.{length-map, length_push}
+use Rattle.std.proofs.lemmas.List.Sums.{AllPass-from_list_all}
 use Rattle.std.proofs.lemmas.Bool.{and_parts, ltb-true, false≢true}
 use Rattle.std.proofs.lemmas.Bool.Decides.{nat_tests}
 use Rattle.model.specs.Search.{member, is_distinct}
@@ -9,9 +10,8 @@ use Rattle.model.specs.Claims.{of, without}
 use Rattle.model.specs.State.{State, numbers, closed}
 use Rattle.model.specs.declared.state.Claim.{Claim}
 use Rattle.model.specs.declared.state.Opened.{Opened}
-use Rattle.claims.proofs.Small.{all_pass_at}
 use Rattle.book.specs.Held.{state}
-use Rattle.book.specs.declared.book.Book.{Book}
+use Rattle.book.specs.declared.tables.Tables.{Tables}
 use Rattle.model.proofs.Graphs.{at_most}
 use Rattle.model.proofs.Numbers.{all_pass_filter, all_pass_wider, all_pass_push, any_passes, open_closed, open_push, distinct_closed, distinct_push}
 use Rattle.model.proofs.Recalls.{Grounded}
@@ -67,7 +67,7 @@ steady_below d (e ∷ es) h k = let rest = steady_below d es in grind (arith, na
 
 -- each open number is below 64
 pub small_at : (es : List Opened) (i : ℕ) (x : Opened) → i < length es → list_all (λ e. ltb e.dispatch 64) es ≡ true → (get_or es i x).dispatch < 64
-small_at es i x h small = ltb-true (get_or es i x).dispatch 64 (all_pass_at (λ e. ltb e.dispatch 64) es i x small h)
+small_at es i x h small = ltb-true (get_or es i x).dispatch 64 (AllPass-from_list_all (λ e. ltb e.dispatch 64) es small i x h)
 
 numbers_below : (es : List Opened) → list_all (λ e. ltb e.dispatch 64) es ≡ true → AllByRecursion (λ n. n < 64) (numbers es)
 numbers_below [] h = tt
@@ -96,6 +96,6 @@ module _ (s : State) (w : Steady s.opened s.claims) where
       let found = any_passes (λ c. member c.dispatch (numbers s.opened)) (of d) s.claims w.grounded h in
       grind (arith, nat_tests, found.1, found.2)
 
--- every book is steady
-pub book_steady : {T O : Type 0} (b : Book T O) → Steady (state b).opened (state b).claims
-book_steady b = record { distinct = b.distinct; small = b.small; grounded = b.grounded }
+-- a book's tables are steady
+pub tables_steady : (b : Tables) → Steady (state b).opened (state b).claims
+tables_steady b = record { distinct = b.distinct; small = b.small; grounded = b.grounded }

@@ -1,12 +1,12 @@
 -- The turns of recalling, one after another, as the book takes them.
-use Rattle.std.proofs.Common.{◌≡◌, ℕ, suc, ◌+◌, ◌-◌, ◌<◌, ◌≤◌, List, [], ◌∷◌, ◌++◌, length, Some, None, Option, unwrap_or, sym, refl, ap, ◌∙◌, subst, arith}
+use Rattle.std.proofs.Common.{◌≡◌, ℕ, suc, ◌+◌, ◌-◌, ◌<◌, ◌≤◌, List, [], ◌∷◌, ◌++◌, length, Some, None, sym, refl, ap, ◌∙◌, arith}
 use Rattle.std.proofs.lemmas.List.{append-nil, append_assoc, length_push}
 use Rattle.uses.specs.Relations.{Relations}
 use Rattle.orders.specs.Laws.{OrderLaws}
-use Rattle.model.specs.Claims.{waiting_section}
 use Rattle.model.specs.State.{State, recall}
-use Rattle.model.specs.Recalling.{Order, Named, Recalled, named, nobody, first, on_cycles, recalling_at_most, recalling}
+use Rattle.model.specs.Recalling.{Order, Recalled, named, nobody, first, on_cycles, recalling_at_most, recalling}
 use Rattle.model.specs.Calls.{filled}
+use Rattle.model.specs.declared.report.Named.{Named}
 use Rattle.model.specs.declared.report.Report.{Report}
 use Rattle.model.proofs.Recalls.{Grounded, recalls}
 use Rattle.model.proofs.Exact.{recalls_shorten}
@@ -21,20 +21,9 @@ pub record Turned (u : Relations) (o : Order) (s₀ s : State) (turn : ℕ) (r :
   pub recalls : (recalling_at_most 64 u o s₀).recalls ≡ so_far ++ (recalling_at_most (64 - turn) u o s).recalls
   pub state : (recalling_at_most 64 u o s₀).state ≡ (recalling_at_most (64 - turn) u o s).state
 
--- a victim by one table and order is one by the same table and order
-pub victim_same : (u u' : Relations) (o o' : Order) (s : State) (v : Option ℕ) → u ≡ u' → o ≡ o' → v ≡ first u o s (on_cycles u s) → first u' o' s (on_cycles u' s) ≡ v
-victim_same u u' o o' s v same_u same_o h =
-    sym
-    (subst (λ (x : Relations). v ≡ first x o' s (on_cycles x s)) same_u (subst (λ (x : Order). v ≡ first u x s (on_cycles u s)) same_o h))
-
-name : ℕ → ℕ → Named
+-- a dispatch and its section, as a report names them
+abbrev pub name : ℕ → ℕ → Named
 name d section = record { dispatch = d; section = section }
-
--- the name of a victim, likewise
-pub named_same : (u u' : Relations) (s : State) (d section : ℕ) → u ≡ u' → section ≡ unwrap_or (waiting_section u s.claims d) 65535 → ◌≡◌ {A = Named} (record { dispatch = d; section = section }) (named u' s d)
-unfolding name
-named_same u u' s d section same h =
-    ap (name d) h ∙ ap (λ (x : Relations). named x s d) same
 
 module _ (u : Relations) (o : Order) where
   -- before the first turn

@@ -5,9 +5,10 @@ use Rattle.std.proofs.lemmas.Bool.{cond_both, cond-true, cond-false}
 use Rattle.uses.specs.Relations.{Relations}
 use Rattle.model.specs.Claims.{dispatch_waits, waiting_section}
 use Rattle.model.specs.State.{State, numbers}
-use Rattle.model.specs.Recalling.{Named, named}
+use Rattle.model.specs.Recalling.{named}
 use Rattle.model.specs.Calls.{filled, woken}
 use Rattle.book.specs.Before.{SectionsOf}
+use Rattle.model.specs.declared.report.Named.{Named}
 use Rattle.model.specs.declared.report.Report.{Report}
 use Rattle.model.specs.declared.state.Opened.{Opened}
 use Rattle.model.proofs.ClaimLists.{waiting_section_some}
@@ -60,8 +61,6 @@ woken_more f q es i x h =
     ∙ ap (λ ns. map f (filter q (numbers (take i es))) ++ ns)
     (cond_both (q d) (d ∷ []) [] (λ ds. map f ds ≡ cond (q d) (f d ∷ []) []) (λ t. sym (cond-true (q d) (f d ∷ []) [] t)) (λ t. sym (cond-false (q d) (f d ∷ []) [] t)))))
 
--- who is woken, where the table stays and the state is known
-pub woken_at : (u u' : Relations) (s t t' : State) (rs : List Named) (r r' : Report) (sections : List (Option ℕ)) → u' ≡ u → t ≡ t' → SectionsOf u s sections → ((x : State) (ns : List Named) → SectionsOf u' x sections → r ≡ filled ns [] → r' ≡ filled ns (woken u' x t)) → r ≡ filled rs [] → r' ≡ filled rs (woken u s t')
-woken_at u u' s t t' rs r r' sections same_u same_t known names is =
-    subst (λ (y : State). r' ≡ filled rs (woken u s y)) same_t
-    (subst (λ (v : Relations). SectionsOf v s sections → r' ≡ filled rs (woken v s t)) same_u (λ k. names s rs k is) known)
+-- who is woken, where the state is known
+pub woken_at : (u : Relations) (s t t' : State) (rs : List Named) (r r' : Report) (sections : List (Option ℕ)) → t ≡ t' → SectionsOf u s sections → ((x : State) (ns : List Named) → SectionsOf u x sections → r ≡ filled ns [] → r' ≡ filled ns (woken u x t)) → r ≡ filled rs [] → r' ≡ filled rs (woken u s t')
+woken_at u s t t' rs r r' sections same known names is = subst (λ (y : State). r' ≡ filled rs (woken u s y)) same (names s rs known is)

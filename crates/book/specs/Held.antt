@@ -1,10 +1,8 @@
--- The abstract state that a book holds.
+-- The abstract state that a book's tables hold.
 use Rattle.marks.specs.Marks.{marked}
-use Rattle.lists.specs.Entries.{entries}
-use Rattle.claims.specs.Claims.{claims}
 use Rattle.model.specs.State.{State}
-use Rattle.book.specs.declared.book.Book.{Book}
+use Rattle.book.specs.declared.tables.Tables.{Tables}
 
--- the state, read off the book's tables
-abbrev pub state : {T O : Type 0} → Book T O → State
-state b = record { opened = entries b.opened; recalled = marked b.recalled; claims = claims b.claims; detection = b.detection }
+-- the state, read off the tables
+abbrev pub state : Tables → State
+state t = record { opened = t.opened; recalled = marked t.recalled; claims = t.claims; detection = t.detection }

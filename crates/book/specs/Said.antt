@@ -1,5 +1,5 @@
--- What each case of an answer says.
-use Rattle.std.specs.Prelude.{ℕ, Result}
+-- What each case of an answer says, and the words that it is printed in.
+use Rattle.std.specs.Prelude.{ℕ, List, ◌++◌, codes, decimal, Result}
 use Rattle.std.specs.declared.result.Result.TheVariants as result
 use Rattle.model.specs.Calls.{Answer as Says, is_ok, is_granted, is_covered, is_waiting, is_recalled, is_refused}
 use Rattle.book.specs.declared.answers.Answer.{Answer}
@@ -28,3 +28,12 @@ said (result.Ok Covered) = is_covered
 said (result.Ok Waits) = is_waiting
 said (result.Ok Recalled) = is_recalled
 said (result.Err refusal) = is_refused (number refusal)
+
+-- the words of what an answer or a refusal says
+abbrev pub answer_words : Says → List ℕ
+answer_words is_ok = codes "ok"
+answer_words is_granted = codes "granted"
+answer_words is_covered = codes "covered"
+answer_words is_waiting = codes "waits"
+answer_words is_recalled = codes "recalled"
+answer_words (is_refused number) = codes "refused " ++ decimal number

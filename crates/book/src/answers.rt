@@ -1,7 +1,11 @@
 // What the book answers.
-ghost use Rattle.std.specs.Prelude.{◌≡◌};
+ghost use Rattle.std.specs.Prelude.{◌≡◌, Ok, Some};
+ghost use Rattle.model.specs.Calls.{is_refused};
+ghost use Rattle.book.specs.Said.{said, number, answer_words};
 ghost use Rattle.book.specs.declared.answers.Refusal.TheVariants.{NotKnown};
 
+use std::error::Error;
+use std::fmt;
 use uses::table::UnknownUse;
 
 // The answer to a call that is not refused.
@@ -19,30 +23,72 @@ pub enum Answer {
     Recalled,
 }
 
-// Why a call was refused, in the order of the checks. Numbered from 1.
+impl Answer {
+    // The word of the answer, as it is printed.
+    pub fn name(self) -> &'static str
+        ensures { result.now ≡ answer_words (said (Ok self)) }
+    {
+        match self {
+            Answer::Ok => "ok",
+            Answer::Granted => "granted",
+            Answer::Covered => "covered",
+            Answer::Waits => "waits",
+            Answer::Recalled => "recalled",
+        }
+    }
+}
+
+impl fmt::Display for Answer {
+    ghost output = { λ answer. Some (answer_words (said (Ok answer))) };
+
+    fn fmt<W: fmt::Write>(&self, f: &mut fmt::Formatter<W>) -> fmt::Result {
+        f.write_str(self.name())
+    }
+}
+
+// Why a call was refused, in the order of the checks.
 #[derive(Clone, Copy, Debug, PartialEq, Eq)]
 pub enum Refusal {
     // the dispatch number is above 63
-    NumberTooHigh,
+    NumberTooHigh = 1,
     // the section is above 1023
-    SectionTooHigh,
+    SectionTooHigh = 2,
     // the use is unknown
-    NotKnown,
+    NotKnown = 3,
     // the weight is above 1000
-    WeightTooHigh,
+    WeightTooHigh = 4,
     // the dispatch is recalled
-    IsRecalled,
+    IsRecalled = 5,
     // the dispatch is open
-    IsOpen,
+    IsOpen = 6,
     // the dispatch is free
-    IsFree,
+    IsFree = 7,
     // the dispatch waits
-    IsWaiting,
+    IsWaiting = 8,
     // 512 claims stand and the new one is not covered
-    NoRoom,
+    NoRoom = 9,
     // the dispatch is not recalled
-    NotRecalled,
+    NotRecalled = 10,
 }
+
+impl Refusal {
+    // The number of the refusal.
+    pub fn number(self) -> u8
+        ensures { result ≡ number self }
+    {
+        self as u8
+    }
+}
+
+impl fmt::Display for Refusal {
+    ghost output = { λ refusal. Some (answer_words (is_refused (number refusal))) };
+
+    fn fmt<W: fmt::Write>(&self, f: &mut fmt::Formatter<W>) -> fmt::Result {
+        write!(f, "refused {}", self.number())
+    }
+}
+
+impl Error for Refusal {}
 
 impl From<UnknownUse> for Refusal {
     ghost from_gives = { λ _ r. r ≡ NotKnown };

@@ -1,15 +1,32 @@
 // The six calls.
 ghost use Rattle.std.specs.Prelude.{◌≡◌};
+ghost use Rattle.model.specs.State.{new as new_state};
 ghost use Rattle.model.specs.declared.call.Call.TheVariants.{Open, Claim as ClaimCall, Close, Withdraw, Acknowledge, Sweep};
-ghost use Rattle.book.specs.Carried.{CarriedOut, Clear};
+ghost use Rattle.book.specs.Carried.{Done};
 ghost use Rattle.book.specs.Held.{state};
 
 use crate::answers::{Answer, Refusal};
 use crate::book::Book;
-use crate::reports::clear;
+use crate::policy::Policy;
+use crate::tables::Tables;
 use model::report::Report;
+use model::state::Detection;
 use orders::order::RecallOrder;
 use uses::table::UseTable;
+
+impl<T: UseTable, O> Book<T, O> {
+    // A new book. It cannot be refused.
+    pub fn new(table: T, order: O, detection: Detection) -> Book<T, O>
+        ensures after { state result.tables ≡ new_state detection }
+        ensures table { result.policy.table ≡ table }
+        ensures order { result.policy.order ≡ order }
+    {
+        Book {
+            policy: Policy { table, order },
+            tables: Tables::new(detection),
+        }
+    }
+}
 
 impl<T: UseTable, O: RecallOrder> Book<T, O> {
     // Opens a dispatch (begins a transaction).
@@ -19,13 +36,11 @@ impl<T: UseTable, O: RecallOrder> Book<T, O> {
         weight: u32,
         report: &mut Report,
     ) -> Result<Answer, Refusal>
-        ensures done { CarriedOut (T.UseTable.meaning self.old.table) (O.RecallOrder.meaning self.old.order) (state self.old) (Open dispatch weight) result report.new (state self.new) }
-        ensures table { self.new.table ≡ self.old.table }
-        ensures order { self.new.order ≡ self.old.order }
+        ensures { Done T.meaning O.meaning self.old (Open dispatch weight) result report.new self.new }
     {
-        clear(report);
-        let entry = self.check_open(dispatch, weight)?;
-        self.opened.push(entry);
+        *report = Report::empty();
+        let newcomer = self.tables.check_open(dispatch, weight)?;
+        self.tables.open(newcomer);
         Ok(Answer::Ok)
     }
 
@@ -38,74 +53,66 @@ impl<T: UseTable, O: RecallOrder> Book<T, O> {
         mode: u32,
         report: &mut Report,
     ) -> Result<Answer, Refusal>
-        ensures done { Clear (T.UseTable.meaning self.old.table) (state self.old) → CarriedOut (T.UseTable.meaning self.old.table) (O.RecallOrder.meaning self.old.order) (state self.old) (ClaimCall dispatch section mode) result report.new (state self.new) }
-        ensures table { self.new.table ≡ self.old.table }
-        ensures order { self.new.order ≡ self.old.order }
+        ensures { Done T.meaning O.meaning self.old (ClaimCall dispatch section mode) result report.new self.new }
     {
-        clear(report);
-        let claim = self.check_claim(dispatch, section, mode)?;
+        *report = Report::empty();
+        let table = &self.policy.table;
+        let claim = self.tables.check_claim(table, dispatch, section, mode)?;
         if self
+            .tables
             .claims
-            .is_covered(&self.table, claim.dispatch, claim.section, claim.mode)
+            .is_covered(table, claim.dispatch, claim.section, claim.mode)
         {
             return Ok(Answer::Covered);
         }
-        if self.is_full() {
+        if self.tables.is_full() {
             return Err(Refusal::NoRoom);
         }
-        if !self.claims.is_blocked(&self.table, claim) {
-            self.enter(claim);
+        if !self.tables.claims.is_blocked(table, claim) {
+            self.tables.enter(claim);
             return Ok(Answer::Granted);
         }
-        Ok(self.enter_blocked(claim, report))
+        Ok(self.tables.enter_blocked(&self.policy, claim, report))
     }
 
     // Closes a dispatch that runs (commits).
     pub fn close(&mut self, dispatch: u32, report: &mut Report) -> Result<Answer, Refusal>
-        ensures done { CarriedOut (T.UseTable.meaning self.old.table) (O.RecallOrder.meaning self.old.order) (state self.old) (Close dispatch) result report.new (state self.new) }
-        ensures table { self.new.table ≡ self.old.table }
-        ensures order { self.new.order ≡ self.old.order }
+        ensures { Done T.meaning O.meaning self.old (Close dispatch) result report.new self.new }
     {
-        clear(report);
-        let number = self.check_close(dispatch)?;
-        self.end(number, report);
+        *report = Report::empty();
+        let number = self.tables.check_close(&self.policy.table, dispatch)?;
+        *report = self.tables.end(&self.policy.table, number);
         Ok(Answer::Ok)
     }
 
     // Withdraws a dispatch, running or waiting (aborts).
     pub fn withdraw(&mut self, dispatch: u32, report: &mut Report) -> Result<Answer, Refusal>
-        ensures done { CarriedOut (T.UseTable.meaning self.old.table) (O.RecallOrder.meaning self.old.order) (state self.old) (Withdraw dispatch) result report.new (state self.new) }
-        ensures table { self.new.table ≡ self.old.table }
-        ensures order { self.new.order ≡ self.old.order }
+        ensures { Done T.meaning O.meaning self.old (Withdraw dispatch) result report.new self.new }
     {
-        clear(report);
-        let number = self.check_withdraw(dispatch)?;
-        self.end(number, report);
+        *report = Report::empty();
+        let number = self.tables.check_withdraw(dispatch)?;
+        *report = self.tables.end(&self.policy.table, number);
         Ok(Answer::Ok)
     }
 
     // Takes note of a recall: the dispatch is free again.
     pub fn acknowledge(&mut self, dispatch: u32, report: &mut Report) -> Result<Answer, Refusal>
-        ensures done { CarriedOut (T.UseTable.meaning self.old.table) (O.RecallOrder.meaning self.old.order) (state self.old) (Acknowledge dispatch) result report.new (state self.new) }
-        ensures table { self.new.table ≡ self.old.table }
-        ensures order { self.new.order ≡ self.old.order }
+        ensures { Done T.meaning O.meaning self.old (Acknowledge dispatch) result report.new self.new }
     {
-        clear(report);
-        let number = self.check_acknowledge(dispatch)?;
-        self.recalled.remove(number);
+        *report = Report::empty();
+        let number = self.tables.check_acknowledge(dispatch)?;
+        self.tables.acknowledge(number);
         Ok(Answer::Ok)
     }
 
     // Looks for cycles of waits, and recalls until none stands (a deadlock detection run).
     pub fn sweep(&mut self, report: &mut Report) -> Result<Answer, Refusal>
-        ensures done { CarriedOut (T.UseTable.meaning self.old.table) (O.RecallOrder.meaning self.old.order) (state self.old) Sweep result report.new (state self.new) }
-        ensures table { self.new.table ≡ self.old.table }
-        ensures order { self.new.order ≡ self.old.order }
+        ensures { Done T.meaning O.meaning self.old Sweep result report.new self.new }
     {
-        clear(report);
-        let before = self.waiting_sections();
-        self.recall_all(report);
-        self.name_all_woken(&before, report);
+        let before = self.tables.waiting_sections(&self.policy.table);
+        *report = self.tables.recall_all(&self.policy);
+        self.tables
+            .name_all_woken(&self.policy.table, &before, report);
         Ok(Answer::Ok)
     }
 }

@@ -1,8 +1,5 @@
 // Any call, with the law over runs.
-ghost use Rattle.std.specs.Prelude.{◌≡◌};
-ghost use Rattle.model.specs.Runs.{Run, at};
-ghost use Rattle.book.specs.Carried.{CarriedOut, Clear, RunGoesOn};
-ghost use Rattle.book.specs.Held.{state};
+ghost use Rattle.book.specs.Carried.{Done, KeepsLaw};
 
 use crate::answers::{Answer, Refusal};
 use crate::book::Book;
@@ -15,10 +12,8 @@ impl<T: UseTable, O: RecallOrder> Book<T, O> {
     // Carries out any call. For every run of calls that has led to the book, the run with this call
     // and this outcome added keeps exclusion, progress and recall.
     pub fn carry_out(&mut self, asked: Call, report: &mut Report) -> Result<Answer, Refusal>
-        ensures done { Clear (T.UseTable.meaning self.old.table) (state self.old) → CarriedOut (T.UseTable.meaning self.old.table) (O.RecallOrder.meaning self.old.order) (state self.old) asked result report.new (state self.new) }
-        ensures law { (run : Run) → at (T.UseTable.meaning self.old.table) (O.RecallOrder.meaning self.old.order) run ≡ state self.old → RunGoesOn (T.UseTable.meaning self.old.table) (O.RecallOrder.meaning self.old.order) (state self.old) asked result report.new (state self.new) run }
-        ensures table { self.new.table ≡ self.old.table }
-        ensures order { self.new.order ≡ self.old.order }
+        ensures done { Done T.meaning O.meaning self.old asked result report.new self.new }
+        ensures law { KeepsLaw T.meaning O.meaning self.old asked result report.new self.new }
     {
         match asked {
             Call::Open { dispatch, weight } => self.open(dispatch, weight, report),

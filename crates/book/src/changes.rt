@@ -1,29 +1,26 @@
-// How the book's tables change.
-ghost use Rattle.std.specs.Prelude.{◌≡◌, ◌<◌, ◌≤◌, true, false, length};
+// How the tables change.
+ghost use Rattle.std.specs.Prelude.{◌≡◌, ◌<◌, true, false, length};
 ghost use Rattle.model.specs.State.{new as new_state, is_open, taken_out, entered, recall as recall_state};
+ghost use Rattle.model.specs.Calls.{opening, acknowledged};
 ghost use Rattle.book.specs.Held.{state};
 
-use crate::book::Book;
-use crate::opened::{Others, is_listed};
+use crate::opened::is_listed;
+use crate::tables::Tables;
 use claims::claim_table::ClaimTable;
-use lists::fixed_list::FixedList;
+use lists::FixedList;
 use marks::Marks;
 use model::state::{Claim, Detection, Opened};
 
-impl<T, O> Book<T, O> {
-    // A new book. It cannot be refused.
-    pub fn new(table: T, order: O, detection: Detection) -> Book<T, O>
-        ensures after { state result ≡ new_state detection }
-        ensures table { result.table ≡ table }
-        ensures order { result.order ≡ order }
+impl Tables {
+    // The tables of a new book.
+    pub(crate) fn new(detection: Detection) -> Tables
+        ensures { state result ≡ new_state detection }
     {
         let free = Opened {
             dispatch: 0,
             weight: 0,
         };
-        Book {
-            table,
-            order,
+        Tables {
             detection,
             opened: FixedList::new(free),
             recalled: Marks::none(),
@@ -38,34 +35,45 @@ impl<T, O> Book<T, O> {
         is_listed(self.opened.rows(), dispatch)
     }
 
+    // Opens a dispatch that is not open.
+    pub(crate) fn open(&mut self, newcomer: Opened)
+        requires small { newcomer.dispatch < 64 }
+        requires closed { is_open (state self.old) newcomer.dispatch ≡ false }
+        ensures { state self.new ≡ opening newcomer.dispatch newcomer.weight (state self.old) }
+    {
+        self.opened.push(newcomer);
+    }
+
     // Takes out the dispatch's claims and its open entry.
     pub(crate) fn take_out(&mut self, dispatch: u8)
-        ensures after { state self.new ≡ taken_out dispatch (state self.old) }
-        ensures table { self.new.table ≡ self.old.table }
-        ensures order { self.new.order ≡ self.old.order }
+        ensures { state self.new ≡ taken_out dispatch (state self.old) }
     {
-        self.opened.retain(&Others { dispatch });
+        self.opened.retain(|e| e.dispatch != dispatch);
         self.claims.take_out(dispatch);
     }
 
     // Recalls an open dispatch.
     pub(crate) fn recall(&mut self, dispatch: u8)
         requires { is_open (state self.old) dispatch ≡ true }
-        ensures after { state self.new ≡ recall_state dispatch (state self.old) }
-        ensures table { self.new.table ≡ self.old.table }
-        ensures order { self.new.order ≡ self.old.order }
+        ensures { state self.new ≡ recall_state dispatch (state self.old) }
     {
         self.take_out(dispatch);
         self.recalled.insert(dispatch);
+    }
+
+    // Takes note of a recall.
+    pub(crate) fn acknowledge(&mut self, dispatch: u8)
+        requires { dispatch < 64 }
+        ensures { state self.new ≡ acknowledged dispatch (state self.old) }
+    {
+        self.recalled.remove(dispatch);
     }
 
     // Enters a claim of an open dispatch at the end of the claim list.
     pub(crate) fn enter(&mut self, claim: Claim)
         requires here { is_open (state self.old) claim.dispatch ≡ true }
         requires room { length (state self.old).claims < 512 }
-        ensures after { state self.new ≡ entered claim (state self.old) }
-        ensures table { self.new.table ≡ self.old.table }
-        ensures order { self.new.order ≡ self.old.order }
+        ensures { state self.new ≡ entered claim (state self.old) }
     {
         self.claims.enter(claim);
     }

@@ -6,7 +6,7 @@ ghost use Rattle.book.specs.Held.{state};
 ghost use Rattle.book.specs.Verdict.{Verdict};
 
 use crate::answers::Refusal;
-use crate::book::Book;
+use crate::tables::Tables;
 use model::state::{Claim, Opened};
 use uses::table::UseTable;
 
@@ -29,6 +29,8 @@ pub fn number(dispatch: u32) -> Result<u8, Refusal>
 }
 
 // The section, if it is one.
+// Kept: beside `number`. They differ in type, limit and refusal, which one generic function would
+// be passed at each call.
 pub fn section_number(section: u32) -> Result<u16, Refusal>
     ensures { Verdict result (refusal (section_too_high section ∷ [])) (λ n. n ≡ section) }
 {
@@ -38,12 +40,12 @@ pub fn section_number(section: u32) -> Result<u16, Refusal>
     Ok(section as u16)
 }
 
-impl<T: UseTable, O> Book<T, O> {
+impl Tables {
     // Does a claim of the dispatch wait?
-    pub(crate) fn waits(&self, dispatch: u8) -> bool
-        ensures { result ≡ dispatch_waits (T.UseTable.meaning self.now.table) (state self.now).claims dispatch }
+    pub(crate) fn waits<T: UseTable>(&self, table: &T, dispatch: u8) -> bool
+        ensures { result ≡ dispatch_waits (T.meaning table.now) (state self.now).claims dispatch }
     {
-        self.claims.waiting_section(&self.table, dispatch).is_some()
+        self.claims.waiting_section(table, dispatch).is_some()
     }
 
     // Do as many claims stand as a book holds?
@@ -88,35 +90,36 @@ impl<T: UseTable, O> Book<T, O> {
     }
 
     // Is the dispatch open, and does it run?
-    pub(crate) fn check_close(&self, dispatch: u32) -> Result<u8, Refusal>
-        ensures { Verdict result (refusal (number_too_high dispatch ∷ recalled_already (state self.now) dispatch ∷ not_open (state self.now) dispatch ∷ waiting_already (T.UseTable.meaning self.now.table) (state self.now) dispatch ∷ [])) (λ n. n ≡ dispatch) }
+    pub(crate) fn check_close<T: UseTable>(&self, table: &T, dispatch: u32) -> Result<u8, Refusal>
+        ensures { Verdict result (refusal (number_too_high dispatch ∷ recalled_already (state self.now) dispatch ∷ not_open (state self.now) dispatch ∷ waiting_already (T.meaning table.now) (state self.now) dispatch ∷ [])) (λ n. n ≡ dispatch) }
     {
         let number = self.check_withdraw(dispatch)?;
-        if self.waits(number) {
+        if self.waits(table, number) {
             return Err(Refusal::IsWaiting);
         }
         Ok(number)
     }
 
     // May the dispatch claim the section for the use, if there is room?
-    pub(crate) fn check_claim(
+    pub(crate) fn check_claim<T: UseTable>(
         &self,
+        table: &T,
         dispatch: u32,
         section: u32,
         mode: u32,
     ) -> Result<Claim, Refusal>
-        ensures { Verdict result (refusal (number_too_high dispatch ∷ section_too_high section ∷ unknown_use (T.UseTable.meaning self.now.table) mode ∷ recalled_already (state self.now) dispatch ∷ not_open (state self.now) dispatch ∷ waiting_already (T.UseTable.meaning self.now.table) (state self.now) dispatch ∷ [])) (λ c. c ≡ record { dispatch = dispatch; section = section; mode = mode }) }
+        ensures { Verdict result (refusal (number_too_high dispatch ∷ section_too_high section ∷ unknown_use (T.meaning table.now) mode ∷ recalled_already (state self.now) dispatch ∷ not_open (state self.now) dispatch ∷ waiting_already (T.meaning table.now) (state self.now) dispatch ∷ [])) (λ c. c ≡ record { dispatch = dispatch; section = section; mode = mode }) }
     {
         let claimant = number(dispatch)?;
         let section = section_number(section)?;
-        self.table.check(mode)?;
+        table.check(mode)?;
         if self.recalled.contains(claimant) {
             return Err(Refusal::IsRecalled);
         }
         if !self.is_open(claimant) {
             return Err(Refusal::IsFree);
         }
-        if self.waits(claimant) {
+        if self.waits(table, claimant) {
             return Err(Refusal::IsWaiting);
         }
         Ok(Claim {

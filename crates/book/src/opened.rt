@@ -1,36 +1,16 @@
-// The open list.
-ghost use Rattle.std.specs.Prelude.{◌≡◌, ◌≤◌, not, length, ◌==◌};
+// Looking through the open list.
+ghost use Rattle.std.specs.Prelude.{◌≡◌, ◌≤◌, length};
 ghost use Rattle.model.specs.Search.{member};
 ghost use Rattle.model.specs.State.{numbers};
 ghost use Rattle.model.specs.Recalling.{standing as standing_of, weight as weight_of};
 
-use lists::test::Test;
 use model::state::Opened;
-
-// Passes the entries of every dispatch but the given one.
-#[derive(Clone, Copy)]
-pub struct Others {
-    pub dispatch: u8,
-}
-
-impl Test<Opened> for Others {
-    ghost passed = { λ t e. not (e.dispatch == t.dispatch) };
-
-    fn passes(&self, e: Opened) -> bool {
-        e.dispatch != self.dispatch
-    }
-}
 
 // Is the dispatch in the open list?
 pub fn is_listed(opened: &[Opened], dispatch: u8) -> bool
     ensures { result ≡ member dispatch (numbers opened.now) }
 {
-    for e in opened {
-        if e.dispatch == dispatch {
-            return true;
-        }
-    }
-    false
+    opened.iter().any(|e| e.dispatch == dispatch)
 }
 
 // How many were opened before the dispatch.
@@ -38,24 +18,18 @@ pub fn standing(opened: &[Opened], dispatch: u8) -> u32
     requires { length opened.now ≤ 64 }
     ensures { result ≡ standing_of opened.now dispatch }
 {
-    let mut before = 0;
-    for e in opened {
-        if e.dispatch == dispatch {
-            return before;
-        }
-        before += 1;
-    }
-    before
+    opened
+        .iter()
+        .position(|e| e.dispatch == dispatch)
+        .unwrap_or(opened.len()) as u32
 }
 
 // The weight of the dispatch.
 pub fn weight(opened: &[Opened], dispatch: u8) -> u32
     ensures { result ≡ weight_of opened.now dispatch }
 {
-    for e in opened {
-        if e.dispatch == dispatch {
-            return u32::from(e.weight);
-        }
-    }
-    0
+    opened
+        .iter()
+        .find(|e| e.dispatch == dispatch)
+        .map_or(0, |e| u32::from(e.weight))
 }

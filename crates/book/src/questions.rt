@@ -10,6 +10,7 @@ ghost use Rattle.book.specs.Verdict.{Verdict};
 use crate::answers::Refusal;
 use crate::book::Book;
 use crate::checks::{number, section_number};
+use crate::tables::Tables;
 use marks::Marks;
 use model::state::Condition;
 use uses::table::UseTable;
@@ -21,51 +22,56 @@ pub struct Standing {
     pub waits_for: Option<u16>,
 }
 
-impl<T: UseTable, O> Book<T, O> {
-    fn condition_of(&self, dispatch: u8) -> Condition
-        ensures { result ≡ condition_of_lem (T.UseTable.meaning self.now.table) (state self.now) dispatch }
+impl Tables {
+    fn condition_of<T: UseTable>(&self, table: &T, dispatch: u8) -> Condition
+        ensures { result ≡ condition_of_lem (T.meaning table.now) (state self.now) dispatch }
     {
         if self.recalled.contains(dispatch) {
             Condition::Recalled
         } else if !self.is_open(dispatch) {
             Condition::Free
-        } else if self.waits(dispatch) {
+        } else if self.waits(table, dispatch) {
             Condition::Waiting
         } else {
             Condition::Running
         }
     }
+}
 
+impl<T: UseTable, O> Book<T, O> {
     // How does the dispatch stand, and for which section does it wait? Refused by 1.
     pub fn condition(&self, dispatch: u32) -> Result<Standing, Refusal>
-        ensures { condition_answered (T.UseTable.meaning self.now.table) (state self.now) dispatch result }
+        ensures { condition_answered (T.meaning self.now.policy.table) (state self.now.tables) dispatch result }
     {
         let number = number(dispatch)?;
+        let table = &self.policy.table;
         Ok(Standing {
-            condition: self.condition_of(number),
-            waits_for: self.claims.waiting_section(&self.table, number),
+            condition: self.tables.condition_of(table, number),
+            waits_for: self.tables.claims.waiting_section(table, number),
         })
     }
 
     // Marks the dispatches for which the dispatch waits. Refused by 1, and then all marks are off.
+    // Kept: here and below, marks in a place of the caller's beside the `Result`, since a refused
+    // question turns them all off, which an `Err` would not say.
     pub fn waited_for(&self, dispatch: u32, marks: &mut Marks) -> Result<(), Refusal>
         ensures answered { Verdict result (refusal (number_too_high dispatch ∷ [])) (λ _. Unit {0}) }
-        ensures found { marked marks.new ≡ waited_for_by (T.UseTable.meaning self.now.table) (state self.now) dispatch }
+        ensures found { marked marks.new ≡ waited_for_by (T.meaning self.now.policy.table) (state self.now.tables) dispatch }
     {
         *marks = Marks::none();
         let number = number(dispatch)?;
-        *marks = self.claims.waits_for(&self.table, number);
+        *marks = self.tables.claims.waits_for(&self.policy.table, number);
         Ok(())
     }
 
     // Marks the dispatches with a held claim on the section. Refused by 2, and then all marks are off.
     pub fn holders(&self, section: u32, marks: &mut Marks) -> Result<(), Refusal>
         ensures answered { Verdict result (refusal (section_too_high section ∷ [])) (λ _. Unit {0}) }
-        ensures found { marked marks.new ≡ holders_of (T.UseTable.meaning self.now.table) (state self.now) section }
+        ensures found { marked marks.new ≡ holders_of (T.meaning self.now.policy.table) (state self.now.tables) section }
     {
         *marks = Marks::none();
         let section = section_number(section)?;
-        *marks = self.claims.holders(&self.table, section);
+        *marks = self.tables.claims.holders(&self.policy.table, section);
         Ok(())
     }
 }

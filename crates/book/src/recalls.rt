@@ -4,28 +4,33 @@ ghost use Rattle.model.specs.Recalling.{recalling};
 ghost use Rattle.model.specs.Calls.{filled};
 ghost use Rattle.book.specs.Held.{state};
 
-use crate::book::Book;
-use crate::reports::name_recalled;
-use model::report::Report;
+use crate::policy::Policy;
+use crate::tables::Tables;
+use model::report::{Named, Report};
 use orders::order::RecallOrder;
 use uses::table::UseTable;
 
-impl<T: UseTable, O: RecallOrder> Book<T, O> {
+impl Tables {
     // While a dispatch is on a cycle, recalls the first of all that are on cycles, and names it.
-    pub(crate) fn recall_all(&mut self, report: &mut Report)
-        requires { report.old ≡ filled [] [] }
-        ensures after { state self.new ≡ (recalling (T.UseTable.meaning self.old.table) (O.RecallOrder.meaning self.old.order) (state self.old)).state }
-        ensures named { report.new ≡ filled (recalling (T.UseTable.meaning self.old.table) (O.RecallOrder.meaning self.old.order) (state self.old)).recalls [] }
-        ensures table { self.new.table ≡ self.old.table }
-        ensures order { self.new.order ≡ self.old.order }
+    pub(crate) fn recall_all<T: UseTable, O: RecallOrder>(
+        &mut self,
+        policy: &Policy<T, O>,
+    ) -> Report
+        ensures after { state self.new ≡ (recalling (T.meaning policy.now.table) (O.meaning policy.now.order) (state self.old)).state }
+        ensures named { result ≡ filled (recalling (T.meaning policy.now.table) (O.meaning policy.now.order) (state self.old)).recalls [] }
     {
+        let mut report = Report::empty();
         for _turn in 0..64u8 {
-            let Some(d) = self.victim() else {
-                return;
+            let Some(dispatch) = self.victim(policy) else {
+                return report;
             };
-            let section = self.claims.waiting_section(&self.table, d).unwrap_or(65535);
-            self.recall(d);
-            name_recalled(report, d, section);
+            // Kept: a report has numbers and no options, so where nobody waits the definition gives
+            // 65535, the number of an unused place. Who is on a cycle waits.
+            let waiting = self.claims.waiting_section(&policy.table, dispatch);
+            let section = waiting.unwrap_or(65535);
+            self.recall(dispatch);
+            report.name_recalled(Named { dispatch, section });
         }
+        report
     }
 }

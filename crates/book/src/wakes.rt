@@ -2,65 +2,73 @@
 ghost use Rattle.std.specs.Prelude.{◌≡◌, ℕ, ◌+◌, ◌<◌, ◌≤◌, not, ◌&&◌, List, [], ◌∷◌, ◌++◌, length, if◌then◌else◌, None};
 ghost use Rattle.model.specs.Claims.{dispatch_waits, waiting_section};
 ghost use Rattle.model.specs.State.{State, taken_out};
-ghost use Rattle.model.specs.Recalling.{Named, named};
+ghost use Rattle.model.specs.Recalling.{named};
 ghost use Rattle.model.specs.Calls.{filled, woken};
+ghost use Rattle.model.specs.declared.report.Named.{Named};
 ghost use Rattle.book.specs.Held.{state};
 ghost use Rattle.book.specs.Before.{SectionsOf};
 
-use crate::book::Book;
-use crate::reports::name_woken;
-use model::report::Report;
+use crate::tables::Tables;
+use model::report::{Named, Report};
+use std::array;
 use uses::table::UseTable;
 
-impl<T: UseTable, O> Book<T, O> {
+impl Tables {
     // For each dispatch, the section for which it waits, if it waits.
-    pub(crate) fn waiting_sections(&self) -> [Option<u16>; 64]
-        ensures { SectionsOf (T.UseTable.meaning self.now.table) (state self.now) result }
+    // Kept: an array, in fixed memory, with a place for each number.
+    pub(crate) fn waiting_sections<T: UseTable>(&self, table: &T) -> [Option<u16>; 64]
+        ensures { SectionsOf (T.meaning table.now) (state self.now) result }
     {
-        let mut sections = [None; 64];
-        for d in 0..64 {
-            sections[d] = self.claims.waiting_section(&self.table, d as u8);
-        }
-        sections
+        array::from_fn(|d| self.claims.waiting_section(table, d as u8))
     }
 
     // Names the dispatch, if it waited before and runs now.
-    fn name_if_woken(&self, before: &[Option<u16>; 64], dispatch: u8, report: &mut Report)
+    fn name_if_woken<T: UseTable>(
+        &self,
+        table: &T,
+        before: &[Option<u16>; 64],
+        dispatch: u8,
+        report: &mut Report,
+    )
         requires small { dispatch < 64 }
         requires room { report.old.recalled + report.old.woken < 64 }
-        ensures named { (s : State) (rs ws : List Named) → SectionsOf (T.UseTable.meaning self.now.table) s before.now → report.old ≡ filled rs ws → report.new ≡ filled rs (ws ++ (if dispatch_waits (T.UseTable.meaning self.now.table) s.claims dispatch && not (dispatch_waits (T.UseTable.meaning self.now.table) (state self.now).claims dispatch) then named (T.UseTable.meaning self.now.table) s dispatch ∷ [] else [])) }
+        ensures named { (s : State) (rs ws : List Named) → SectionsOf (T.meaning table.now) s before.now → report.old ≡ filled rs ws → report.new ≡ filled rs (ws ++ (if dispatch_waits (T.meaning table.now) s.claims dispatch && not (dispatch_waits (T.meaning table.now) (state self.now).claims dispatch) then named (T.meaning table.now) s dispatch ∷ [] else [])) }
         ensures recalled { report.new.recalled ≡ report.old.recalled }
         ensures one { report.new.woken ≤ report.old.woken + 1 }
     {
         let Some(section) = before[dispatch as usize] else {
             return;
         };
-        if self.claims.waiting_section(&self.table, dispatch).is_none() {
-            name_woken(report, dispatch, section);
+        if self.claims.waiting_section(table, dispatch).is_none() {
+            report.name_woken(Named { dispatch, section });
         }
     }
 
     // Names all who waited before and run now, in the order of the open list.
-    pub(crate) fn name_all_woken(&self, before: &[Option<u16>; 64], report: &mut Report)
+    pub(crate) fn name_all_woken<T: UseTable>(
+        &self,
+        table: &T,
+        before: &[Option<u16>; 64],
+        report: &mut Report,
+    )
         requires none { report.old.woken ≡ 0 }
         requires room { report.old.recalled + length (state self.now).opened ≤ 64 }
-        ensures { (s : State) (rs : List Named) → SectionsOf (T.UseTable.meaning self.now.table) s before.now → report.old ≡ filled rs [] → report.new ≡ filled rs (woken (T.UseTable.meaning self.now.table) s (state self.now)) }
+        ensures { (s : State) (rs : List Named) → SectionsOf (T.meaning table.now) s before.now → report.old ≡ filled rs [] → report.new ≡ filled rs (woken (T.meaning table.now) s (state self.now)) }
     {
         for e in self.opened.rows() {
-            self.name_if_woken(before, e.dispatch, report);
+            self.name_if_woken(table, before, e.dispatch, report);
         }
     }
 
-    // Takes out an open dispatch, and names who is woken by it.
-    pub(crate) fn end(&mut self, dispatch: u8, report: &mut Report)
-        requires { report.old ≡ filled [] [] }
+    // Takes out an open dispatch, and reports who is woken by it.
+    pub(crate) fn end<T: UseTable>(&mut self, table: &T, dispatch: u8) -> Report
         ensures after { state self.new ≡ taken_out dispatch (state self.old) }
-        ensures named { report.new ≡ filled [] (woken (T.UseTable.meaning self.old.table) (state self.old) (taken_out dispatch (state self.old))) }
-        ensures table { self.new.table ≡ self.old.table }
-        ensures order { self.new.order ≡ self.old.order }
+        ensures named { result ≡ filled [] (woken (T.meaning table.now) (state self.old) (taken_out dispatch (state self.old))) }
     {
-        let before = self.waiting_sections();
+        let before = self.waiting_sections(table);
         self.take_out(dispatch);
-        self.name_all_woken(&before, report);
+        let mut report = Report::empty();
+        self.name_all_woken(table, &before, &mut report);
+        report
     }
 }

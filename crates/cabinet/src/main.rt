@@ -64,8 +64,26 @@ fn far_station(book: &mut Book<TwoUses, Newest>, calls: &[Call]) {
     }
 }
 
-// Opens by ticket, and claims each section of the way; meanwhile the far station calls. On every way
-// out the ticket is handed in.
+// Claims each section of the way until one is not granted, and counts those that were. After each
+// grant the far station calls.
+fn advance(
+    book: &mut Book<TwoUses, Newest>,
+    ticket: &Ticket,
+    way: &[u32],
+    meanwhile: &[Call],
+) -> usize {
+    let mut report = Report::empty();
+    for (granted, section) in way.iter().enumerate() {
+        match ticket.claim(book, *section, MOVE, &mut report) {
+            Ok(Answer::Granted | Answer::Covered) => far_station(book, meanwhile),
+            // it waits, was recalled or is refused: this station turns back
+            _ => return granted,
+        }
+    }
+    way.len()
+}
+
+// Opens by ticket, and advances. However far that went, the ticket is handed in.
 fn travel(
     book: &mut Book<TwoUses, Newest>,
     way: &[u32],
@@ -73,64 +91,44 @@ fn travel(
 ) -> Result<Trip, Refusal> {
     let mut report = Report::empty();
     let ticket = Ticket::open(book, OURS, WEIGHT, &mut report)?;
-    for (granted, section) in way.iter().enumerate() {
-        match ticket.claim(book, *section, MOVE, &mut report) {
-            Ok(Answer::Granted | Answer::Covered) => far_station(book, meanwhile),
-            // it waits, was recalled or is refused: this station turns back
-            _ => {
-                let ending = ticket.hand_in(book, &mut report)?;
-                return Ok(Trip { granted, ending });
-            }
-        }
-    }
+    let granted = advance(book, &ticket, way, meanwhile);
     let ending = ticket.hand_in(book, &mut report)?;
-    Ok(Trip {
-        granted: way.len(),
-        ending,
-    })
+    Ok(Trip { granted, ending })
 }
 
-fn ending_name(ending: Ending) -> &'static str {
-    match ending {
-        Ending::Closed => "closed",
-        Ending::Withdrawn => "withdrawn, since it waited",
-        Ending::Acknowledged => "its recall acknowledged",
+// Tells how far the trip went, and how it ended.
+fn print_trip(rt: &impl Print, trip: Trip) -> io::Result<()> {
+    let Trip { granted, ending } = trip;
+    for section in WAY.iter().take(granted) {
+        println!(rt; "  claims section {section}: granted")?;
     }
+    if let Some(section) = WAY.get(granted) {
+        println!(rt; "  claims section {section}: not granted")?;
+    }
+    println!(rt; "  hands the ticket in: {ending}")
 }
 
 // Travels, and then tells of it. Nothing is printed while the ticket is out: printing can fail.
-fn play(rt: &HostRuntime, book: &mut Book<TwoUses, Newest>, meanwhile: &[Call]) -> io::Result<()> {
+fn play(rt: &impl Print, book: &mut Book<TwoUses, Newest>, meanwhile: &[Call]) -> io::Result<()> {
     let travelled = travel(book, &WAY, meanwhile);
     println!(rt; "  opens dispatch {OURS} by ticket")?;
     match travelled {
-        Ok(Trip { granted, ending }) => {
-            for section in WAY.iter().take(granted) {
-                println!(rt; "  claims section {section}: granted")?;
-            }
-            for section in WAY.iter().skip(granted).take(1) {
-                println!(rt; "  claims section {section}: not granted")?;
-            }
-            let name = ending_name(ending);
-            println!(rt; "  hands the ticket in: {name}")
-        }
-        Err(refusal) => {
-            let number = refusal as u8 + 1;
-            println!(rt; "  refused {number}")
-        }
+        Ok(trip) => print_trip(rt, trip),
+        Err(refusal) => println!(rt; "  {refusal}"),
     }
 }
 
 fn main(rt: HostRuntime) -> io::Result<()> {
     let mut book = Book::new(TwoUses, Newest, Detection::Continuous);
     println!(rt; "A STATION THAT TRAVELS BY TICKET")?;
-    println!(rt; "")?;
+    println!(rt)?;
     println!(rt; "The way is free.")?;
     play(&rt, &mut book, &[])?;
-    println!(rt; "")?;
+    println!(rt)?;
     println!(rt; "The far station moves on section {SPAN}.")?;
     far_station(&mut book, &THEY_COME);
     play(&rt, &mut book, &[])?;
-    println!(rt; "")?;
+    println!(rt)?;
     println!(rt; "It still does, and claims section {DOCK} as soon as we are on it.")?;
     play(&rt, &mut book, &THEY_CROSS)
 }

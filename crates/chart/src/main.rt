@@ -4,57 +4,43 @@
 ghost use Rattle.std.specs.Prelude.{◌≡◌};
 ghost use Rattle.chart.specs.Asked.{asked};
 
-use std::io;
-use uses::five_uses::{FiveUses, IS, IX, S, SIX, X};
+use std::{fmt, io};
 use uses::spans::{Direction, Span, Spans};
 use uses::table::{UnknownUse, UseTable};
-use uses::two_uses::{LOOK, MOVE, TwoUses};
+use uses::{five_uses, two_uses};
 
-// A use as the chart names it.
-#[derive(Clone, Copy)]
-struct NamedUse {
-    name: &'static str,
-    mode: u32,
-}
+// The rows and columns of the charts.
+const TWO_USES: [two_uses::Use; 2] = [two_uses::Use::Look, two_uses::Use::Move];
 
-const TWO_USES: [NamedUse; 2] = [
-    NamedUse {
-        name: "look",
-        mode: LOOK,
-    },
-    NamedUse {
-        name: "move",
-        mode: MOVE,
-    },
+const FIVE_USES: [five_uses::Use; 5] = [
+    five_uses::Use::IS,
+    five_uses::Use::IX,
+    five_uses::Use::S,
+    five_uses::Use::SIX,
+    five_uses::Use::X,
 ];
 
-const FIVE_USES: [NamedUse; 5] = [
-    NamedUse {
-        name: "IS",
-        mode: IS,
-    },
-    NamedUse {
-        name: "IX",
-        mode: IX,
-    },
-    NamedUse { name: "S", mode: S },
-    NamedUse {
-        name: "SIX",
-        mode: SIX,
-    },
-    NamedUse { name: "X", mode: X },
-];
-
-// The two charts of a table.
+// The relations that a chart may show.
 #[derive(Clone, Copy)]
 enum Relation {
     Conflicts,
     Covers,
 }
 
+impl fmt::Display for Relation {
+    fn fmt<W: fmt::Write>(&self, f: &mut fmt::Formatter<W>) -> fmt::Result {
+        f.pad(match self {
+            Relation::Conflicts => "conflicts",
+            Relation::Covers => "covers",
+        })
+    }
+}
+
 // The table's answer for one place of a chart.
+// Kept: a match on the relation, which is printed too; a closure in its place would not say which
+// of the two a chart shows.
 fn ask<T: UseTable>(table: &T, relation: Relation, row: u32, column: u32) -> bool
-    ensures { result ≡ asked (T.UseTable.meaning table.now) relation row column }
+    ensures { result ≡ asked (T.meaning table.now) relation row column }
 {
     match relation {
         Relation::Conflicts => table.conflicts(row, column),
@@ -62,103 +48,93 @@ fn ask<T: UseTable>(table: &T, relation: Relation, row: u32, column: u32) -> boo
     }
 }
 
-fn title(relation: Relation) -> &'static str {
-    match relation {
-        Relation::Conflicts => "conflicts",
-        Relation::Covers => "covers",
+// One relation of a table, with a row and a column for each of its uses.
+#[derive(Clone, Copy)]
+struct Chart<'a, T, U> {
+    table: &'a T,
+    relation: Relation,
+    uses: &'a [U],
+}
+
+impl<T: UseTable, U: Copy + fmt::Display + Into<u32>> Chart<'_, T, U> {
+    // The line of one use: its code, its name and a mark for each column.
+    fn write_row<W: fmt::Write>(&self, f: &mut fmt::Formatter<W>, row: U) -> fmt::Result {
+        let code: u32 = row.into();
+        write!(f, "  {code} {row:<8}")?;
+        for column in self.uses {
+            let mark = if ask(self.table, self.relation, code, (*column).into()) {
+                "x"
+            } else {
+                "."
+            };
+            write!(f, "{mark:>6}")?;
+        }
+        writeln!(f)
+    }
+
+    // The first line: the relation and the names of the columns.
+    fn write_heading<W: fmt::Write>(&self, f: &mut fmt::Formatter<W>) -> fmt::Result {
+        let relation = self.relation;
+        write!(f, "\n  {relation:<10}")?;
+        for column in self.uses {
+            write!(f, "{column:>6}")?;
+        }
+        writeln!(f)
     }
 }
 
-fn print_row<T: UseTable>(
+impl<T: UseTable, U: Copy + fmt::Display + Into<u32>> fmt::Display for Chart<'_, T, U> {
+    fn fmt<W: fmt::Write>(&self, f: &mut fmt::Formatter<W>) -> fmt::Result {
+        self.write_heading(f)?;
+        for row in self.uses {
+            self.write_row(f, *row)?;
+        }
+        Ok(())
+    }
+}
+
+// Both charts of a table, under a heading.
+fn print_table<T: UseTable, U: Copy + fmt::Display + Into<u32>>(
     rt: &HostRuntime,
+    heading: &str,
     table: &T,
-    relation: Relation,
-    row: NamedUse,
-    uses: &[NamedUse],
+    uses: &[U],
 ) -> io::Result<()> {
-    let name = row.name;
-    let code = row.mode;
-    print!(rt; "  {code} {name:<8}")?;
-    for column in uses {
-        let mark = if ask(table, relation, row.mode, column.mode) {
-            "x"
-        } else {
-            "."
+    println!(rt; "\n{heading}")?;
+    for relation in [Relation::Conflicts, Relation::Covers] {
+        let chart = Chart {
+            table,
+            relation,
+            uses,
         };
-        print!(rt; "{mark:>6}")?;
-    }
-    println!(rt; "")
-}
-
-fn print_chart<T: UseTable>(
-    rt: &HostRuntime,
-    table: &T,
-    relation: Relation,
-    uses: &[NamedUse],
-) -> io::Result<()> {
-    let heading = title(relation);
-    print!(rt; "\n  {heading:<10}")?;
-    for column in uses {
-        let name = column.name;
-        print!(rt; "{name:>6}")?;
-    }
-    println!(rt; "")?;
-    for row in uses {
-        print_row(rt, table, relation, *row, uses)?;
+        print!(rt; "{chart}")?;
     }
     Ok(())
 }
 
-fn print_table<T: UseTable>(
-    rt: &HostRuntime,
-    heading: &'static str,
-    table: &T,
-    uses: &[NamedUse],
-) -> io::Result<()> {
-    println!(rt; "\n{heading}")?;
-    print_chart(rt, table, Relation::Conflicts, uses)?;
-    print_chart(rt, table, Relation::Covers, uses)
-}
-
-fn direction_name(direction: Direction) -> &'static str {
-    match direction {
-        Direction::Up => "up",
-        Direction::Down => "down",
-        Direction::Works => "works",
-    }
-}
-
-fn print_span(rt: &HostRuntime, span: Span) -> io::Result<()> {
-    let direction = direction_name(span.direction);
-    let from = span.from;
-    let to = span.to;
-    let code = span.code();
-    print!(rt; "{direction} {from}-{to} ({code})")
-}
-
+// Whether the two spans conflict, as a question with its answer.
 fn print_conflict(rt: &HostRuntime, a: Span, b: Span) -> io::Result<()> {
-    print!(rt; "  Does ")?;
-    print_span(rt, a)?;
-    print!(rt; " conflict with ")?;
-    print_span(rt, b)?;
-    let answer = if ask(&Spans, Relation::Conflicts, a.code(), b.code()) {
+    let code = u32::from(a);
+    let other = u32::from(b);
+    let answer = if ask(&Spans, Relation::Conflicts, code, other) {
         "yes"
     } else {
         "no"
     };
-    println!(rt; "? {answer}")
+    println!(rt; "  Does {a} ({code}) conflict with {b} ({other})? {answer}")
 }
 
+// Whether the span is a use, as a question with its answer.
 fn print_known(rt: &HostRuntime, span: Span) -> io::Result<()> {
-    print!(rt; "  Is ")?;
-    print_span(rt, span)?;
-    let answer = match Spans.check(span.code()) {
+    let code = u32::from(span);
+    let answer = match Spans.check(code) {
         Ok(()) => "yes",
         Err(UnknownUse) => "no, it is unknown",
     };
-    println!(rt; " a use? {answer}")
+    println!(rt; "  Is {span} ({code}) a use? {answer}")
 }
 
+// Examples of spans.
 fn print_spans(rt: &HostRuntime) -> io::Result<()> {
     let up = Span {
         direction: Direction::Up,
@@ -182,7 +158,8 @@ fn print_spans(rt: &HostRuntime) -> io::Result<()> {
     };
     println!(rt; "\nSPANS")?;
     println!(rt; "")?;
-    println!(rt; "  up 0-5 is the direction up and the fields 0 to 4; its code is 65541")?;
+    let code = u32::from(up);
+    println!(rt; "  {up} is the direction up and the fields 0 to 4; its code is {code}")?;
     print_conflict(rt, up, crossing)?;
     print_conflict(rt, up, beyond)?;
     print_known(rt, empty)
@@ -195,7 +172,7 @@ fn main(rt: HostRuntime) -> io::Result<()> {
     println!(rt; "           of one section side by side, and the later claim waits")?;
     println!(rt; "covers:    where an x stands, a dispatch with a claim for the row's use of")?;
     println!(rt; "           a section is answered covered when it claims the column's there")?;
-    print_table(&rt, "TWO USES", &TwoUses, &TWO_USES)?;
-    print_table(&rt, "FIVE USES", &FiveUses, &FIVE_USES)?;
+    print_table(&rt, "TWO USES", &two_uses::TwoUses, &TWO_USES)?;
+    print_table(&rt, "FIVE USES", &five_uses::FiveUses, &FIVE_USES)?;
     print_spans(&rt)
 }

@@ -9,6 +9,8 @@ use orders::pair::Then;
 use orders::single::{Fewest, Lightest, Newest};
 
 // A single order that is chosen at run time.
+// Kept: here and below, an enum with a match: a `dyn` order would have to be handed out, which the
+// gate refuses.
 #[derive(Clone, Copy, Debug, PartialEq, Eq)]
 pub enum AnyOrder {
     Newest,

@@ -17,6 +17,8 @@ pub enum AnyTable {
     Span(Spans),
 }
 
+// Kept: an enum, each question with a match of its own: a `dyn` table would have to be handed out,
+// which the gate refuses.
 impl UseTable for AnyTable {
     ghost meaning = { table_meaning };
 

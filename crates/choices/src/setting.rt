@@ -4,8 +4,9 @@ ghost use Rattle.choices.specs.Settings.{Chosen};
 
 use crate::any_order::ChosenOrder;
 use crate::any_table::AnyTable;
-use crate::names::{detection_named, order_named, table_named};
+use crate::names::detection_named;
 use model::state::Detection;
+use std::error::Error;
 use std::fmt;
 
 // What three words choose.
@@ -17,7 +18,7 @@ pub struct Setting {
 }
 
 // What is wrong with the words; a wrong one is kept to be shown.
-#[derive(Drop)]
+#[derive(Debug, Drop)]
 pub enum Wrong {
     Unreadable,
     Count,
@@ -44,17 +45,19 @@ impl fmt::Display for Wrong {
     }
 }
 
+impl Error for Wrong {}
+
 // The setting of three words; or the first of them that is wrong.
 pub fn choose(detection: String, table: String, order: String) -> Result<Setting, Wrong>
     ensures { Chosen (string_bytes detection) (string_bytes table) (string_bytes order) result }
 {
-    let Some(detection) = detection_named(detection.as_str()) else {
+    let Some(detection) = detection_named(&detection) else {
         return Err(Wrong::Detection(detection));
     };
-    let Some(table) = table_named(table.as_str()) else {
+    let Ok(table) = table.parse() else {
         return Err(Wrong::Table(table));
     };
-    let Some(order) = order_named(order.as_str()) else {
+    let Ok(order) = order.parse() else {
         return Err(Wrong::Order(order));
     };
     Ok(Setting {

@@ -1,4 +1,1 @@
-pub mod Searches
-pub mod PlacedFrom
-pub mod Small
-pub mod Marking
+pub mod PlacedClaims

@@ -1,29 +1,89 @@
-// Tests of a claim in its place, behind the earlier ones.
-ghost use Rattle.std.specs.Prelude.{◌≡◌, not, ◌&&◌, ◌==◌};
-ghost use Rattle.model.specs.Claims.{of, blocks as blocking};
+// Claims in their places. The contracts speak of one as the model's placed claim, and of the places
+// as the list of those that are left.
+ghost use Rattle.std.specs.Prelude.{◌≡◌, ◌&&◌};
+ghost use Rattle.std.specs.Iterator.{YieldsFirst, item_count};
+ghost use Rattle.marks.specs.Marks.{marked};
+ghost use Rattle.model.specs.Claims.{of, blocks as blocking, waits};
 ghost use Rattle.model.specs.Search.{any};
 
-use crate::search::blocked;
+use crate::blocking::{blocks, is_blocked};
+use marks::Marks;
 use model::state::Claim;
+use std::marker::Model;
 use uses::table::UseTable;
 
-// Is the claim the dispatch's, and does it wait?
-pub fn waits<T: UseTable>(table: &T, earlier: &[Claim], c: Claim, d: u8) -> bool
-    ensures { result ≡ (of d c && any (λ b. blocking (T.UseTable.meaning table.now) b c) earlier.now) }
-{
-    c.dispatch == d && blocked(table, earlier, c)
+// A claim with the claims that stand earlier, each of a dispatch below 64.
+#[derive(Drop)]
+pub struct Placed<'a> {
+    pub earlier: &'a [Claim],
+    pub claim: Claim,
 }
 
-// Is the claim the dispatch's, and is it held (granted)?
-pub fn counts<T: UseTable>(table: &T, earlier: &[Claim], c: Claim, d: u8) -> bool
-    ensures { result ≡ (of d c && not (any (λ b. blocking (T.UseTable.meaning table.now) b c) earlier.now)) }
-{
-    c.dispatch == d && !blocked(table, earlier, c)
+impl<'a> Model for Placed<'a> {
+    ghost use Rattle.std.specs.Prelude.{◌<◌};
+    ghost use Rattle.std.specs.List.{All};
+    ghost use Rattle.model.specs.Claims.{Placed as PlacedClaim};
+
+    ghost Value = { PlacedClaim };
+
+    ghost view = { λ p. record { earlier = p.earlier.now; claim = p.claim } };
+
+    ghost invariant = { λ p. (p.claim.dispatch < 64) × All (λ c. c.dispatch < 64) p.earlier.now };
 }
 
-// Is the claim on the section, and is it held?
-pub fn occupies<T: UseTable>(table: &T, earlier: &[Claim], c: Claim, section: u16) -> bool
-    ensures { result ≡ (c.section == section && not (any (λ b. blocking (T.UseTable.meaning table.now) b c) earlier.now)) }
-{
-    c.section == section && !blocked(table, earlier, c)
+impl<'a> Placed<'a> {
+    // Does the claim wait: does some earlier claim block it?
+    pub fn waits<T: UseTable>(&self, table: &T) -> bool
+        ensures { result ≡ waits (T.meaning table.now) self.now }
+    {
+        is_blocked(table, self.earlier, &self.claim)
+    }
+
+    // The dispatches whose earlier claims block the claim.
+    pub fn blockers<T: UseTable>(&self, table: &T) -> Marks
+        ensures { marked result ≡ (λ e. any (λ b. of e b && blocking (T.meaning table.now) b self.now.claim) self.now.earlier) }
+    {
+        let mut found = Marks::none();
+        for b in self.earlier {
+            if blocks(table, b, &self.claim) {
+                found.insert(b.dispatch);
+            }
+        }
+        found
+    }
+}
+
+// The claims in their places, in order, from place `next` on.
+// Kept: an iterator with a name and a place of its own, since a function cannot hand out a chain.
+#[derive(Drop)]
+pub struct Places<'a> {
+    pub claims: &'a [Claim],
+    pub next: usize,
+}
+
+impl<'a> Model for Places<'a> {
+    ghost use Rattle.std.specs.Prelude.{◌<◌, List, take, drop};
+    ghost use Rattle.std.specs.List.{All};
+    ghost use Rattle.model.specs.Claims.{Placed as PlacedClaim, placed_behind};
+
+    ghost Value = { List PlacedClaim };
+
+    ghost view = { λ s. placed_behind (take s.next s.claims.now) (drop s.next s.claims.now) };
+
+    ghost invariant = { λ s. All (λ c. c.dispatch < 64) s.claims.now };
+}
+
+impl<'a> Iterator for Places<'a> {
+    type Item = Placed<'a>;
+
+    ghost next_gives = { YieldsFirst (λ s. s) };
+
+    ghost remaining = { item_count (λ s. s) };
+
+    fn next(&mut self) -> Option<Placed<'a>> {
+        let claim = *self.claims.get(self.next)?;
+        let earlier = &self.claims[..self.next];
+        self.next += 1;
+        Some(Placed { earlier, claim })
+    }
 }

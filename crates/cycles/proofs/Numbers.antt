@@ -1,5 +1,6 @@
 -- The closure over the numbers below 64, one after the other.
-use Rattle.std.proofs.Common.{◌≡◌, ℕ, zero, suc, ◌+◌, ◌<◌, Bool, true, ◌||◌, eqb, List, [], ◌∷◌, ◌++◌, get_or, Decides, sym, refl, ap, ◌∙◌, add-one, arith}
+use Rattle.std.proofs.Common.{◌≡◌, ℕ, zero, suc, ◌+◌, ◌<◌, Bool, true, eqb, List, [], ◌∷◌, ◌++◌, get_or, Decides, sym, refl, ap, ◌∙◌, add-one, arith}
+use Rattle.std.proofs.lemmas.List.Folds.{list_any-append}
 use Rattle.std.proofs.lemmas.Bool.Decides.{nat_tests, Decides-at}
 use Rattle.marks.specs.declared.Marks.{Marks}
 use Rattle.marks.specs.Marks.{marked, unmarked}
@@ -25,16 +26,11 @@ pub one_more : (k : ℕ) (r q s : ℕ → ℕ → Bool) → q ≡ closure (numbe
 unfolding numbers_below
 one_more k r q s h e = rw add-one (e ∙ ap (by_way_of k) h ∙ sym (closure_last (numbers_below k) k r))
 
--- a list with one number more has that number and the others
-member_last : (ks : List ℕ) (k b : ℕ) → member b (ks ++ (k ∷ [])) ≡ (member b ks || eqb k b)
-member_last [] k b = grind (arith, nat_tests)
-member_last (j ∷ ks) k b = grind (arith, nat_tests, member_last ks k b)
-
 -- each number below n is among them
 below_member : (n b : ℕ) → b < n → member b (numbers_below n) ≡ true
 unfolding numbers_below
 below_member zero b h = grind arith
-below_member (suc n) b h = grind (arith, nat_tests, below_member n b, member_last (numbers_below n) n b)
+below_member (suc n) b h = grind (arith, nat_tests, below_member n b, list_any-append (λ m. eqb m b) (numbers_below n) (n ∷ []))
 
 -- whose own row marks them once the rows are closed are on a cycle of the rows
 pub closed_exact : (rows closed : List Marks) (own : Marks) → relation closed ≡ closure (numbers_below 64) (relation rows) → ((a : ℕ) → marked own a ≡ relation closed a a) → (a : ℕ) → Decides (marked own a) (OnCycle (relation rows) a)

@@ -9,6 +9,7 @@ ghost use Rattle.cycles.specs.Rows.{relation, numbers_below};
 use marks::Marks;
 
 // The numbers that are on a cycle, where row a marks the numbers to which a step from a leads.
+// Kept: an array of rows, in fixed memory, with a place for each number.
 pub fn on_cycles(mut rows: [Marks; 64]) -> Marks
     ensures { (a : ℕ) → Decides (marked result a) (OnCycle (relation rows) a) }
 {
@@ -31,8 +32,8 @@ fn add_steps_by(rows: &mut [Marks; 64], k: u8)
     ensures { relation rows.new ≡ by_way_of k (relation rows.old) }
 {
     let via = rows[k as usize];
-    for a in 0..64 {
-        rows[a] = row_by(rows[a], k, via);
+    for row in rows.iter_mut() {
+        *row = row_by(*row, k, via);
     }
 }
 
@@ -48,8 +49,9 @@ fn own_marks(rows: &[Marks; 64]) -> Marks
     ensures { (a : ℕ) → marked result a ≡ relation rows.now a a }
 {
     let mut own = Marks::none();
-    for a in 0..64 {
-        if rows[a as usize].contains(a) {
+    for (a, row) in rows.iter().enumerate() {
+        let a = a as u8;
+        if row.contains(a) {
             own.insert(a);
         }
     }

@@ -3,7 +3,7 @@ use Rattle.std.proofs.Common.{◌≡◌, ℕ, suc, ◌+◌, ◌-◌, ◌<◌, �
 use Rattle.std.proofs.lemmas.List.{append-nil, length-append, nil_from_length}
 use Rattle.std.proofs.lemmas.Slice.{first_rest}
 use Rattle.lines.specs.Fields.{DigitFirst, Takes, Stuck, NoField, WrongFields}
-use Rattle.lines.specs.Faults.{line_fault}
+use Rattle.lines.specs.declared.fault.Fault.TheVariants.{WrongForm}
 use Rattle.lines.specs.Form.{Fields}
 use Rattle.lines.specs.declared.fault.Fault.{Fault}
 use Rattle.lines.proofs.Digit.{some_first}
@@ -14,11 +14,11 @@ pub space_first : (text : List ℕ) → get_or text 0 0 ≡ 32 → text ≡ 32 �
 space_first text is = first_rest text 0 (some_first text (omega arith)) ∙ ap (λ (c : ℕ). c ∷ take (length text - 1) (drop 1 text)) is
 
 -- no field begins where no space stands
-pub no_field_space : (text : List ℕ) (place : ℕ) (e : Fault) → e ≡ line_fault 43 place → (get_or text 0 0 ≡ 32 → ⊥) → NoField text place e
-no_field_space text place e is none = (0, is ∙ ap (λ (n : ℕ). line_fault 43 n) (let s : place ≡ place + 0 = omega arith in s), λ count. stuck_space count text none)
+pub no_field_space : (text : List ℕ) (place : ℕ) (e : Fault) → e ≡ WrongForm place → (get_or text 0 0 ≡ 32 → ⊥) → NoField text place e
+no_field_space text place e is none = (0, is ∙ ap (λ (n : ℕ). WrongForm n) (let s : place ≡ place + 0 = omega arith in s), λ count. stuck_space count text none)
 
 -- no field begins where no digit stands behind the space
-pub no_field_digit : (text from : List ℕ) (place : ℕ) (e : Fault) → text ≡ 32 ∷ from → e ≡ line_fault 43 (place + 1) → (DigitFirst from → ⊥) → NoField text place e
+pub no_field_digit : (text from : List ℕ) (place : ℕ) (e : Fault) → text ≡ 32 ∷ from → e ≡ WrongForm (place + 1) → (DigitFirst from → ⊥) → NoField text place e
 no_field_digit text from place e whole is none = (1, is, λ count. subst (λ (t : List ℕ). Stuck (suc count) 1 t) (sym whole) (stuck_digit count from none))
 
 -- the numbers are read from the front of the text, and the rest begins at a place
@@ -59,14 +59,14 @@ pub came_wrong : (text numbers rest : List ℕ) (place all : ℕ) (e : Fault) �
 came_wrong text numbers rest place all e came more (before, is, stuck) =
     let low = came.behind in
     let q = place + before - 2 in
-    (q, is ∙ ap (λ (n : ℕ). line_fault 43 n) (let s : place + before ≡ 2 + q = omega arith in s), came.sticks (suc (all - length numbers - 1)) before all q (omega arith) (omega arith) (stuck (all - length numbers - 1)))
+    (q, is ∙ ap (λ (n : ℕ). WrongForm n) (let s : place + before ≡ 2 + q = omega arith in s), came.sticks (suc (all - length numbers - 1)) before all q (omega arith) (omega arith) (stuck (all - length numbers - 1)))
 
 -- behind the last field the text goes on
-pub came_end : (text numbers rest : List ℕ) (place all : ℕ) (e : Fault) → Came text numbers rest place → length numbers ≡ all → 1 ≤ length rest → e ≡ line_fault 43 place → WrongFields all text e
+pub came_end : (text numbers rest : List ℕ) (place all : ℕ) (e : Fault) → Came text numbers rest place → length numbers ≡ all → 1 ≤ length rest → e ≡ WrongForm place → WrongFields all text e
 came_end text numbers rest place all e came long more is =
     let low = came.behind in
     let q = place - 2 in
-    (q, is ∙ ap (λ (n : ℕ). line_fault 43 n) (let s : place ≡ 2 + q = omega arith in s), came.sticks 0 0 all q (omega arith) (omega arith) (stuck_end rest more))
+    (q, is ∙ ap (λ (n : ℕ). WrongForm n) (let s : place ≡ 2 + q = omega arith in s), came.sticks 0 0 all q (omega arith) (omega arith) (stuck_end rest more))
 
 -- behind the last field the text ends
 pub came_whole : (text numbers rest : List ℕ) (place : ℕ) → Came text numbers rest place → length rest ≡ 0 → Fields numbers text

@@ -1,9 +1,10 @@
 -- Letters, and how many fields stand behind each.
-use Rattle.std.proofs.Common.{◌≡◌, ℕ, suc, ◌+◌, ◌<◌, ◌≤◌, cond, eqb, List, [], ◌∷◌, ◌++◌, length, get_or, Ok, Err, sym, refl, ap, ◌∙◌, subst, arith}
+use Rattle.std.proofs.Common.{◌≡◌, ℕ, suc, ◌+◌, ◌<◌, ◌≤◌, cond, eqb, List, [], ◌∷◌, ◌++◌, length, get_or, Result, IsErrAnd, Ok, Err, sym, refl, ap, ◌∙◌, subst, arith}
 use Rattle.std.proofs.lemmas.List.{nil_from_length}
+use Rattle.std.proofs.lemmas.Result.{err_from_is_err_and}
 use Rattle.model.specs.declared.call.Call.{Call}
 use Rattle.model.specs.declared.call.Call.TheVariants.{Open, Claim, Close, Withdraw, Acknowledge, Sweep}
-use Rattle.lines.specs.Faults.{line_fault}
+use Rattle.lines.specs.declared.fault.Fault.TheVariants.{TooLong, NoLetter, WrongForm}
 use Rattle.lines.specs.Fields.{Goes, WrongFields}
 use Rattle.lines.specs.Form.{Fields, letter, numbers, Correct, agree, GoesOn}
 use Rattle.lines.specs.Reading.{HasLetter, Reading, too_long, no_letter, wrong_form, correct}
@@ -61,11 +62,15 @@ fields_go l p text (c, other, (rest, is, fields), same) =
     (numbers c, rest, as_many c ∙ ap fields_behind (sym there.0), fields, there.1)
 
 -- fields that go wrong: the line is of wrong form, one place later
-pub reads_wrong : {l : ℕ} {call : List ℕ → Call} → Spells l call → (m : ℕ) (text : List ℕ) (e : Fault) → m ≡ l → length text ≤ 31 → WrongFields (fields_behind l) text e → Reading (m ∷ text) (Err e)
+reads_wrong : {l : ℕ} {call : List ℕ → Call} → Spells l call → (m : ℕ) (text : List ℕ) (e : Fault) → m ≡ l → length text ≤ 31 → WrongFields (fields_behind l) text e → Reading (m ∷ text) (Err e)
 reads_wrong {l} {call} spells m text e same short (p, is, (goes, stops)) =
     let place : suc (suc p) ≡ 2 + p = omega arith in
-    subst (λ (x : ℕ). Reading (x ∷ text) (Err e)) (sym same) (subst (λ (f : Fault). Reading (l ∷ text) (Err f)) (ap (λ (n : ℕ). line_fault 43 n) place ∙ sym is)
+    subst (λ (x : ℕ). Reading (x ∷ text) (Err e)) (sym same) (subst (λ (f : Fault). Reading (l ∷ text) (Err f)) (ap (λ (n : ℕ). WrongForm n) place ∙ sym is)
     (wrong_form (omega arith) (call [], text, letter_first l text (call []) (spells.starts [])) (suc (suc p)) (line_goes spells p text goes, λ h. stops (fields_go l (suc p) text h))))
+
+-- their fault passes up as it is
+pub reads_passed : {l : ℕ} {call : List ℕ → Call} → Spells l call → (m : ℕ) (text : List ℕ) (r : Result Call Fault) (e : Fault) → m ≡ l → length text ≤ 31 → IsErrAnd r (λ f. f ≡ e) → WrongFields (fields_behind l) text e → Reading (m ∷ text) r
+reads_passed spells m text r e same short passed wrong = let p = err_from_is_err_and r passed in rw (p.1, p.2) (reads_wrong spells m text e same short wrong)
 
 -- as many fields as stand behind the letter are read as its call
 pub reads_call : {l : ℕ} {call : List ℕ → Call} → Spells l call → (m : ℕ) (text ns : List ℕ) → m ≡ l → length text ≤ 31 → length ns ≡ fields_behind l → Fields ns text → Reading (m ∷ text) (Ok (call ns))
@@ -112,11 +117,11 @@ pub spells_sweep : Spells 83 (λ ns. Sweep)
 spells_sweep = record { starts = λ ns. refl; has = λ ns e. sym (nil_from_length ns e) }
 
 -- a line that is too long
-pub reads_long : (line : List ℕ) (e : Fault) → e ≡ line_fault 41 33 → 32 < length line → Reading line (Err e)
+pub reads_long : (line : List ℕ) (e : Fault) → e ≡ TooLong → 32 < length line → Reading line (Err e)
 reads_long line e is long = rw is (too_long long)
 
 -- no letter stands first in an empty line
-pub reads_empty : (line : List ℕ) (e : Fault) → e ≡ line_fault 42 1 → length line ≡ 0 → Reading line (Err e)
+pub reads_empty : (line : List ℕ) (e : Fault) → e ≡ NoLetter → length line ≡ 0 → Reading line (Err e)
 reads_empty [] e is none = rw is (no_letter (omega arith) nothing_first)
   where
     nothing_first : HasLetter [] → ⊥
@@ -124,7 +129,7 @@ reads_empty [] e is none = rw is (no_letter (omega arith) nothing_first)
 reads_empty (x ∷ xs) e is none = absurd (let s : ⊥ = omega arith in s)
 
 -- another byte is no letter
-pub reads_other : (l : ℕ) (text : List ℕ) (e : Fault) → e ≡ line_fault 42 1 → length text ≤ 31 → (l ≡ 79 → ⊥) → (l ≡ 67 → ⊥) → (l ≡ 69 → ⊥) → (l ≡ 87 → ⊥) → (l ≡ 65 → ⊥) → (l ≡ 83 → ⊥) → Reading (l ∷ text) (Err e)
+pub reads_other : (l : ℕ) (text : List ℕ) (e : Fault) → e ≡ NoLetter → length text ≤ 31 → (l ≡ 79 → ⊥) → (l ≡ 67 → ⊥) → (l ≡ 69 → ⊥) → (l ≡ 87 → ⊥) → (l ≡ 65 → ⊥) → (l ≡ 83 → ⊥) → Reading (l ∷ text) (Err e)
 reads_other l text e is short not_o not_c not_e not_w not_a not_s = rw is (no_letter (omega arith) none_first)
   where
     by_call : (call : Call) → l ≡ byte call → ⊥

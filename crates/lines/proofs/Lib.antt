@@ -3,7 +3,6 @@ pub mod Agreeing
 pub mod Sticking
 pub mod Coming
 pub mod Letters
-pub mod Putting
 pub mod Lengths
 pub mod NameLines
 pub mod OneReading

@@ -1,8 +1,7 @@
 -- The lines of those that a report names.
 use Rattle.std.proofs.Common.{◌≡◌, ℕ, ◌+◌, ◌-◌, ◌^◌, ◌<◌, ◌≤◌, min, ◌⊎◌, List, [], ◌∷◌, ◌++◌, length, take, drop, codes, sym, refl, ap, ◌∙◌, ⊎_elim, arith, lit<, lit≤, length-append, length-drop, length-take}
-use Rattle.std.proofs.lemmas.List.{take_all, drop_all}
-use Rattle.std.proofs.lemmas.Bool.{cases_lt}
-use Rattle.model.specs.Recalling.{Named}
+use Rattle.std.proofs.lemmas.List.{take_min, drop_min}
+use Rattle.model.specs.declared.report.Named.{Named}
 use Rattle.model.specs.declared.report.Report.{Report}
 use Rattle.printed.specs.Text.{put_behind}
 use Rattle.printed.proofs.Behind.{behind_none, behind_behind}
@@ -32,22 +31,6 @@ lines_step number word was now ds ss d s ds' ss' all p q h before =
 pub lines_end : (number : ℕ) (word now ds ss all : List ℕ) → length now ≤ 2048 → (ds ≡ []) ⊎ (ss ≡ []) → put_behind now (named_lines number word (names ds ss)) ≡ all → now ≡ all
 lines_end number word now ds ss all fits h before =
     behind_none now fits ∙ ap (λ (xs : List Named). put_behind now (named_lines number word xs)) (sym (none_named ds ss h)) ∙ before
-
--- a front cut at the length
-take_min : (n : ℕ) (xs : List ℕ) → take (min n (length xs)) xs ≡ take n xs
-take_min n xs =
-    ⊎_elim
-    (λ h. let is : min n (length xs) ≡ n = omega arith in ap (λ (k : ℕ). take k xs) is)
-    (λ h. take_all (min n (length xs)) xs (omega arith) ∙ sym (take_all n xs h))
-    (cases_lt n (length xs))
-
--- a rest from the length at most
-drop_min : (n : ℕ) (xs : List ℕ) → drop (min n (length xs)) xs ≡ drop n xs
-drop_min n xs =
-    ⊎_elim
-    (λ h. let is : min n (length xs) ≡ n = omega arith in ap (λ (k : ℕ). drop k xs) is)
-    (λ h. drop_all (min n (length xs)) xs (omega arith) ∙ sym (drop_all n xs h))
-    (cases_lt n (length xs))
 
 -- fronts that the length cuts alike
 take_same : (m n : ℕ) (xs : List ℕ) → min m (length xs) ≡ min n (length xs) → take m xs ≡ take n xs

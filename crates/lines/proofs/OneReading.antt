@@ -3,7 +3,7 @@ use Rattle.std.proofs.Common.{◌≡◌, ℕ, zero, suc, ◌<◌, ◌≤◌, con
 use Rattle.std.specs.Str.Parse.{AllDigits, digits_value}
 use Rattle.model.specs.declared.call.Call.{Call}
 use Rattle.model.specs.declared.call.Call.TheVariants.{Open, Claim, Close, Withdraw, Acknowledge, Sweep}
-use Rattle.lines.specs.Faults.{line_fault}
+use Rattle.lines.specs.declared.fault.Fault.TheVariants.{WrongForm}
 use Rattle.lines.specs.Fields.{DigitFirst}
 use Rattle.lines.specs.Form.{Fields, numbers, Correct, agree, GoesOn, FirstWrong}
 use Rattle.lines.specs.Reading.{HasLetter, too_long, no_letter, wrong_form, correct}
@@ -118,7 +118,7 @@ reading_unique line _ _ (no_letter _ none) (wrong_form _ some _ _) = absurd (non
 reading_unique line _ _ (no_letter _ none) (correct _ c is) = absurd (none (has_letter line c is))
 reading_unique line _ _ (wrong_form a _ _ _) (too_long b) = absurd (long_and_short line b a)
 reading_unique line _ _ (wrong_form _ some _ _) (no_letter _ none) = absurd (none some)
-reading_unique line _ _ (wrong_form _ _ m a) (wrong_form _ _ n b) = ap (λ (p : ℕ). Err (line_fault 43 p)) (one_place m n line a b)
+reading_unique line _ _ (wrong_form _ _ m a) (wrong_form _ _ n b) = ap (λ (p : ℕ). Err (WrongForm p)) (one_place m n line a b)
 reading_unique line _ _ (wrong_form _ _ n wrong) (correct _ c is) = absurd (none_wrong n line c is wrong)
 reading_unique line _ _ (correct a _ _) (too_long b) = absurd (long_and_short line b a)
 reading_unique line _ _ (correct _ c is) (no_letter _ none) = absurd (none (has_letter line c is))

@@ -4,12 +4,9 @@ use Rattle.book.specs.Said.{number}
 use Rattle.book.specs.declared.answers.Refusal.{Refusal}
 use Rattle.book.specs.declared.answers.Refusal.TheVariants.{NumberTooHigh, SectionTooHigh, NotKnown, WeightTooHigh, IsRecalled, IsOpen, IsFree, IsWaiting, NoRoom, NotRecalled}
 use Rattle.lines.specs.declared.fault.Fault.{Fault}
+use Rattle.lines.specs.declared.fault.Fault.TheVariants.{TooManyLines, TooLong, NoLetter, WrongForm, Refused}
 use Rattle.lines.specs.declared.fault.Layer.{Layer}
 use Rattle.lines.specs.declared.fault.Layer.TheVariants.{Line, UseTable, Book}
-
--- a fault of a line, at a byte of it
-abbrev pub line_fault : ℕ → ℕ → Fault
-line_fault number place = record { number = number; place = place; layer = Line }
 
 -- the field that a refusal concerns: the section and the weight are field 2, the use is field 3, the dispatch is field 1
 abbrev pub field : Refusal → ℕ
@@ -37,6 +34,26 @@ layer IsWaiting = Book
 layer NoRoom = Book
 layer NotRecalled = Book
 
--- a refusal as a fault
-abbrev pub of_refusal : Refusal → Fault
-of_refusal refusal = record { number = number refusal; place = field refusal; layer = layer refusal }
+-- the number of a fault
+abbrev pub fault_number : Fault → ℕ
+fault_number TooManyLines = 44
+fault_number TooLong = 41
+fault_number NoLetter = 42
+fault_number (WrongForm place) = 43
+fault_number (Refused refusal) = number refusal
+
+-- the place of a fault: of a line the byte, of a refusal the field
+abbrev pub fault_place : Fault → ℕ
+fault_place TooManyLines = 1
+fault_place TooLong = 33
+fault_place NoLetter = 1
+fault_place (WrongForm place) = place
+fault_place (Refused refusal) = field refusal
+
+-- where a fault is found
+abbrev pub fault_layer : Fault → Layer
+fault_layer TooManyLines = Line
+fault_layer TooLong = Line
+fault_layer NoLetter = Line
+fault_layer (WrongForm place) = Line
+fault_layer (Refused refusal) = layer refusal

@@ -2,9 +2,9 @@
 use Rattle.std.specs.Prelude.{◌≡◌, ℕ, suc, ◌+◌, ◌<◌, ◌≤◌, cond, List, ◌++◌, length, take, drop, codes, ◌==◌, slice_index}
 use Rattle.std.specs.Str.Parse.{AllDigits}
 use Rattle.std.specs.Char.{digit_value}
-use Rattle.lines.specs.Faults.{line_fault}
 use Rattle.lines.specs.Form.{Field, Fields, agree}
 use Rattle.lines.specs.declared.fault.Fault.{Fault}
+use Rattle.lines.specs.declared.fault.Fault.TheVariants.{WrongForm}
 
 -- a digit stands first
 abbrev pub DigitFirst : List ℕ → Type 0
@@ -47,8 +47,8 @@ Stuck count places text = Goes count places text × (Goes count (suc places) tex
 
 -- the text begins with no field: the fault is where it goes wrong, however many fields are read
 abbrev pub NoField : List ℕ → ℕ → Fault → Type 0
-NoField text place fault = (before : ℕ) × (fault ≡ line_fault 43 (place + before)) × ((count : ℕ) → Stuck (suc count) before text)
+NoField text place fault = (before : ℕ) × (fault ≡ WrongForm (place + before)) × ((count : ℕ) → Stuck (suc count) before text)
 
 -- the text is not so many fields: the fault is where it goes wrong, in a line where it stands at place 2
 abbrev pub WrongFields : ℕ → List ℕ → Fault → Type 0
-WrongFields count text fault = (before : ℕ) × (fault ≡ line_fault 43 (2 + before)) × Stuck count before text
+WrongFields count text fault = (before : ℕ) × (fault ≡ WrongForm (2 + before)) × Stuck count before text

@@ -1,11 +1,12 @@
 -- The printed bytes.
 use Rattle.std.specs.Prelude.{ℕ, List, [], ◌∷◌, ◌++◌, take, drop, codes, decimal, Result}
 use Rattle.std.specs.declared.result.Result.TheVariants as result
-use Rattle.model.specs.Calls.{Answer as Says, is_ok, is_granted, is_covered, is_waiting, is_recalled, is_refused}
-use Rattle.model.specs.Recalling.{Named}
+use Rattle.model.specs.Calls.{Answer as Says, is_refused}
+use Rattle.model.specs.declared.report.Named.{Named}
 use Rattle.model.specs.declared.report.Report.{Report}
-use Rattle.book.specs.Said.{said}
+use Rattle.book.specs.Said.{said, answer_words}
 use Rattle.book.specs.declared.answers.Answer.{Answer}
+use Rattle.lines.specs.Faults.{fault_number, fault_place, fault_layer}
 use Rattle.lines.specs.declared.fault.Fault.{Fault}
 use Rattle.lines.specs.declared.fault.Layer.{Layer}
 use Rattle.lines.specs.declared.fault.Layer.TheVariants.{Line, UseTable, Book}
@@ -14,15 +15,6 @@ use Rattle.lines.specs.declared.fault.Layer.TheVariants.{Line, UseTable, Book}
 pub data Reply : Type 0 where
   answer : Says → Reply
   fault : ℕ → ℕ → Reply
-
--- the words of an answer
-abbrev pub answer_words : Says → List ℕ
-answer_words is_ok = codes "ok"
-answer_words is_granted = codes "granted"
-answer_words is_covered = codes "covered"
-answer_words is_waiting = codes "waits"
-answer_words is_recalled = codes "recalled"
-answer_words (is_refused number) = codes "refused " ++ decimal number
 
 -- the words of a reply
 abbrev pub words : Reply → List ℕ
@@ -56,7 +48,7 @@ fault_reply Book number place = answer (is_refused number)
 -- the reply that an outcome is
 abbrev pub reply : Result Answer Fault → Reply
 reply (result.Ok a) = answer (said (result.Ok a))
-reply (result.Err f) = fault_reply f.layer f.number f.place
+reply (result.Err f) = fault_reply (fault_layer f) (fault_number f) (fault_place f)
 
 -- numbers beside sections
 abbrev pub names : List ℕ → List ℕ → List Named

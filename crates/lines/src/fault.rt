@@ -1,9 +1,12 @@
 // Faults, as they pass up to the console.
-ghost use Rattle.std.specs.Prelude.{◌≡◌};
-ghost use Rattle.lines.specs.Faults.{line_fault, of_refusal, field, layer as layer_of};
-ghost use Rattle.book.specs.Said.{number as number_of_lem};
+ghost use Rattle.std.specs.Prelude.{◌≡◌, Err, Some};
+ghost use Rattle.lines.specs.Faults.{field, layer as layer_of, fault_number, fault_place, fault_layer};
+ghost use Rattle.lines.specs.Words.{words, reply};
+ghost use Rattle.lines.specs.declared.fault.Fault.TheVariants.{Refused};
 
 use book::answers::Refusal;
+use std::error::Error;
+use std::fmt;
 
 // Where a fault was found.
 #[derive(Clone, Copy, Debug, PartialEq, Eq)]
@@ -18,79 +21,59 @@ pub enum Layer {
 
 // Why a line was not carried out.
 #[derive(Clone, Copy, Debug, PartialEq, Eq)]
-pub struct Fault {
-    // 1 to 10 for a refusal, 41 to 44 for a line
-    pub number: u8,
-    // of a line, the byte, from 1; of a refusal, the field, from 1
-    pub place: u8,
-    pub layer: Layer,
+pub enum Fault {
+    // the line is number 1000000
+    TooManyLines,
+    // the line has over 32 bytes
+    TooLong,
+    // no call letter stands first
+    NoLetter,
+    // no correct line goes on at the place, a byte of the line, from 1
+    WrongForm { place: u8 },
+    // the call of the line was refused
+    Refused(Refusal),
 }
 
 impl Fault {
-    // Fault 44: the line is number 1000000.
-    pub fn too_many_lines() -> Fault
-        ensures { result ≡ line_fault 44 1 }
+    // Its number: 1 to 10 for a refusal, 41 to 44 for a line.
+    pub fn number(self) -> u8
+        ensures { result ≡ fault_number self }
     {
-        Fault {
-            number: 44,
-            place: 1,
-            layer: Layer::Line,
+        match self {
+            Fault::TooLong => 41,
+            Fault::NoLetter => 42,
+            Fault::WrongForm { .. } => 43,
+            Fault::TooManyLines => 44,
+            Fault::Refused(refusal) => refusal.number(),
         }
     }
 
-    // Fault 41: the line has over 32 bytes.
-    pub(crate) fn too_long() -> Fault
-        ensures { result ≡ line_fault 41 33 }
+    // Where it is: of a line, the byte, from 1; of a refusal, the field, from 1.
+    pub fn place(self) -> u8
+        ensures { result ≡ fault_place self }
     {
-        Fault {
-            number: 41,
-            place: 33,
-            layer: Layer::Line,
+        match self {
+            Fault::TooManyLines | Fault::NoLetter => 1,
+            Fault::TooLong => 33,
+            Fault::WrongForm { place } => place,
+            Fault::Refused(refusal) => field_of(refusal),
         }
     }
 
-    // Fault 42: no call letter stands first.
-    pub(crate) fn no_letter() -> Fault
-        ensures { result ≡ line_fault 42 1 }
+    // Where it was found.
+    pub fn layer(self) -> Layer
+        ensures { result ≡ fault_layer self }
     {
-        Fault {
-            number: 42,
-            place: 1,
-            layer: Layer::Line,
+        match self {
+            Fault::Refused(refusal) => refused_by(refusal),
+            _ => Layer::Line,
         }
-    }
-
-    // Fault 43: no correct line goes on at the place.
-    pub(crate) fn wrong_form(place: u8) -> Fault
-        ensures { result ≡ line_fault 43 place }
-    {
-        Fault {
-            number: 43,
-            place,
-            layer: Layer::Line,
-        }
-    }
-}
-
-// The number of a refusal.
-fn number(refusal: Refusal) -> u8
-    ensures { result ≡ number_of_lem refusal }
-{
-    match refusal {
-        Refusal::NumberTooHigh => 1,
-        Refusal::SectionTooHigh => 2,
-        Refusal::NotKnown => 3,
-        Refusal::WeightTooHigh => 4,
-        Refusal::IsRecalled => 5,
-        Refusal::IsOpen => 6,
-        Refusal::IsFree => 7,
-        Refusal::IsWaiting => 8,
-        Refusal::NoRoom => 9,
-        Refusal::NotRecalled => 10,
     }
 }
 
 // The field that a refusal concerns, from 1.
+// Kept: a number, as of a byte: it passes up as the fault's place, beside the places of line
+// faults.
 fn field_of(refusal: Refusal) -> u8
     ensures { result ≡ field refusal }
 {
@@ -112,13 +95,22 @@ fn refused_by(refusal: Refusal) -> Layer
 }
 
 impl From<Refusal> for Fault {
-    ghost from_gives = { λ refusal fault. fault ≡ of_refusal refusal };
+    ghost from_gives = { λ refusal fault. fault ≡ Refused refusal };
 
     fn from(refusal: Refusal) -> Fault {
-        Fault {
-            number: number(refusal),
-            place: field_of(refusal),
-            layer: refused_by(refusal),
+        Self::Refused(refusal)
+    }
+}
+
+impl fmt::Display for Fault {
+    ghost output = { λ fault. Some (words (reply (Err fault))) };
+
+    fn fmt<W: fmt::Write>(&self, f: &mut fmt::Formatter<W>) -> fmt::Result {
+        match self.layer() {
+            Layer::Line => write!(f, "fault {} at {}", self.number(), self.place()),
+            Layer::UseTable | Layer::Book => write!(f, "refused {}", self.number()),
         }
     }
 }
+
+impl Error for Fault {}

@@ -14,11 +14,11 @@ pub fn read_call(line: &[u8]) -> Result<Call, Fault>
     ensures { Reading line.now result }
 {
     if line.len() > LONGEST {
-        return Err(Fault::too_long());
+        return Err(Fault::TooLong);
     }
     match line {
         [letter, fields @ ..] => read_fields(*letter as char, fields),
-        [] => Err(Fault::no_letter()),
+        [] => Err(Fault::NoLetter),
     }
 }
 
@@ -56,6 +56,6 @@ fn read_fields(letter: char, fields: &[u8]) -> Result<Call, Fault>
             let [] = read_numbers::<0>(fields)?;
             Ok(Call::Sweep)
         }
-        _ => Err(Fault::no_letter()),
+        _ => Err(Fault::NoLetter),
     }
 }

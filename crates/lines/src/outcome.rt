@@ -1,79 +1,75 @@
 // The printed bytes of an outcome.
-ghost use Rattle.std.specs.Prelude.{◌≡◌, ◌≤◌, length, Ok, Err};
-ghost use Rattle.printed.specs.Text.{text, put_behind};
+// Kept: the number of a line and `out` are passed side by side, since a struct of both would borrow
+// `out`, and contracts would then speak of what is lent.
+ghost use Rattle.std.specs.Prelude.{◌≡◌, ◌≤◌, length, Err};
+ghost use Rattle.printed.specs.Text.{put_behind};
 ghost use Rattle.lines.specs.Words.{words, printed_line, named_words, named_lines, names, printed, reply, named_recalled, named_woken};
 
 use crate::fault::{Fault, Layer};
 use book::answers::Answer;
-use model::report::Report;
+use model::report::{Named, Report};
 use printed::place::Printed;
 
-// The word of an answer.
-fn answer_word(answer: Answer) -> &'static [u8]
-    ensures { result.now ≡ words (reply (Ok answer)) }
-{
-    match answer {
-        Answer::Ok => b"ok",
-        Answer::Granted => b"granted",
-        Answer::Covered => b"covered",
-        Answer::Waits => b"waits",
-        Answer::Recalled => b"recalled",
-    }
-}
-
 // Puts the words of a fault: a fault of the line says its place, any other is a refusal.
+// Kept: beside the `Display` of `Fault`, for the reason that stands at `Printed::put_number`.
 fn put_fault(fault: Fault, out: &mut Printed)
-    ensures puts { text out.new ≡ put_behind (text out.old) (words (reply (Err fault))) }
+    ensures puts { out.new ≡ put_behind out.old (words (reply (Err fault))) }
     ensures short { length (words (reply (Err fault))) ≤ 16 }
 {
-    match fault.layer {
+    match fault.layer() {
         Layer::Line => {
             out.put_all(b"fault ");
-            out.put_number(fault.number as u32);
+            out.put_number(u32::from(fault.number()));
             out.put_all(b" at ");
-            out.put_number(fault.place as u32);
+            out.put_number(u32::from(fault.place()));
         }
         Layer::UseTable | Layer::Book => {
             out.put_all(b"refused ");
-            out.put_number(fault.number as u32);
+            out.put_number(u32::from(fault.number()));
         }
     }
 }
 
 // Puts the printed line of a reply.
 fn put_reply(number: u32, outcome: Result<Answer, Fault>, out: &mut Printed)
-    ensures puts { text out.new ≡ put_behind (text out.old) (printed_line number (words (reply outcome))) }
+    ensures puts { out.new ≡ put_behind out.old (printed_line number (words (reply outcome))) }
     ensures short { length (printed_line number (words (reply outcome))) ≤ 28 }
 {
     out.put_number(number);
     out.put(b' ');
     match outcome {
-        Ok(answer) => out.put_all(answer_word(answer)),
+        Ok(answer) => out.put_all(answer.name().as_bytes()),
         Err(fault) => put_fault(fault, out),
     }
     out.put(b'\n');
 }
 
 // Puts the printed line of one that a report names.
-fn put_name(number: u32, word: &[u8], dispatch: u8, section: u16, out: &mut Printed)
-    ensures { text out.new ≡ put_behind (text out.old) (printed_line number (named_words word.now (record { dispatch = dispatch; section = section }))) }
+fn put_name(number: u32, word: &[u8], named: Named, out: &mut Printed)
+    ensures { out.new ≡ put_behind out.old (printed_line number (named_words word.now named)) }
 {
     out.put_number(number);
     out.put(b' ');
     out.put_all(word);
     out.put(b' ');
-    out.put_number(dispatch as u32);
+    out.put_number(u32::from(named.dispatch));
     out.put(b' ');
-    out.put_number(section as u32);
+    out.put_number(u32::from(named.section));
     out.put(b'\n');
 }
 
 // Puts a printed line for each of the dispatches, with its section beside it.
+// Kept: two slices, as the report has two arrays.
 fn put_names(number: u32, word: &[u8], dispatches: &[u8], sections: &[u16], out: &mut Printed)
-    ensures { text out.new ≡ put_behind (text out.old) (named_lines number word.now (names dispatches.now sections.now)) }
+    requires { length out.old ≤ 2048 }
+    ensures { out.new ≡ put_behind out.old (named_lines number word.now (names dispatches.now sections.now)) }
 {
     for (dispatch, section) in dispatches.iter().zip(sections.iter()) {
-        put_name(number, word, *dispatch, *section, out);
+        let named = Named {
+            dispatch: *dispatch,
+            section: *section,
+        };
+        put_name(number, word, named, out);
     }
 }
 
@@ -85,7 +81,7 @@ pub fn print_outcome(
     report: &Report,
     out: &mut Printed,
 )
-    ensures { text out.new ≡ printed number (reply outcome) (named_recalled report.now) (named_woken report.now) }
+    ensures { out.new ≡ printed number (reply outcome) (named_recalled report.now) (named_woken report.now) }
 {
     let recalled = (report.recalled as usize).min(64);
     let named = (recalled + report.woken as usize).min(64);

@@ -5,11 +5,13 @@ ghost use Rattle.std.specs.Prelude.{◌≡◌, ℕ, ◌<◌, true, false, not, �
 ghost use Rattle.marks.specs.Marks.{marked};
 
 // A set of numbers below 64.
+// Kept: one machine word, which is copied and compared as it is; a set of the library's allocates.
 #[derive(Clone, Copy, Debug, PartialEq, Eq)]
 pub struct Marks {
     bits: u64,
 }
 
+#[tactic(auto, using(crate::proofs::Bits::bits), unfolding(crate::specs::Marks::marked))]
 impl Marks {
     // No number is marked.
     pub fn none() -> Marks
@@ -34,11 +36,13 @@ impl Marks {
     }
 
     // Marks the number too.
+    // Kept: here and in the crates above, the numbers come as the u8 of an entry or of a row, so a
+    // type for numbers below 64 would only be wrapped and unwrapped at each call.
     pub fn insert(&mut self, k: u8)
         requires { k < 64 }
         ensures { marked self.new ≡ (λ j. (j == k) || marked self.old j) }
     {
-        self.bits = self.bits | (1 << k);
+        self.bits |= 1 << k;
     }
 
     // Takes the number's mark away.
@@ -46,7 +50,7 @@ impl Marks {
         requires { k < 64 }
         ensures { marked self.new ≡ (λ j. not (j == k) && marked self.old j) }
     {
-        self.bits = self.bits & !(1 << k);
+        self.bits &= !(1 << k);
     }
 
     // What is marked in either.

@@ -1,14 +1,10 @@
 -- Whether some element of a list passes: lists put together, mapped and filtered, and an element that passes.
-use Rattle.std.proofs.Common.{◌≡◌, Bool, true, ◌&&◌, ◌||◌, List, [], ◌∷◌, ◌++◌, map, is_some, filter, refl, inl, inr, arith}
-use mathlib.Core.Bool.{or_assoc}
+use Rattle.std.proofs.Common.{◌≡◌, Bool, true, ◌&&◌, List, [], ◌∷◌, map, is_some, filter, refl, inl, inr, arith}
 use Rattle.std.specs.List.{AllByRecursion}
 use Rattle.std.proofs.lemmas.Bool.{or_cases, or_left, or_right, false≢true}
 use Rattle.model.specs.Search.{any, find}
-
 -- some element of two lists put together passes exactly when one of the first or one of the second does
-pub any_append : {X : Type 0} (p : X → Bool) (xs ys : List X) → any p (xs ++ ys) ≡ (any p xs || any p ys)
-any_append p [] ys = refl
-any_append p (x ∷ xs) ys = rw (any_append p xs ys, or_assoc)
+pub use Rattle.std.proofs.lemmas.List.Folds.{list_any-append as any_append}
 
 -- what passes a test passes a wider one
 pub any_wider : {X : Type 0} (p q : X → Bool) → ((x : X) → p x ≡ true → q x ≡ true) → (xs : List X) → any p xs ≡ true → any q xs ≡ true

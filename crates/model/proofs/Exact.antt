@@ -8,7 +8,7 @@ use Rattle.uses.specs.Relations.{Relations}
 use Rattle.orders.specs.Laws.{OrderLaws}
 use Rattle.model.specs.Search.{member, last, is_distinct}
 use Rattle.model.specs.State.{State, numbers}
-use Rattle.model.specs.Recalling.{Order, Named, named, standing, strictly_before, unbeaten, first}
+use Rattle.model.specs.Recalling.{Order, named, standing, strictly_before, unbeaten, first}
 use Rattle.model.specs.Claims.{dispatch_waits}
 use Rattle.model.specs.Calls.{Effect, checks, refusal, effect, woken, step}
 use Rattle.model.specs.Invariant.{WellFormed}
@@ -17,8 +17,8 @@ use Rattle.model.specs.Law.{once_entered}
 use Rattle.model.specs.Theorems.{FirstExact, ReportFits}
 use Rattle.model.specs.declared.call.Call.{Call}
 use Rattle.model.specs.declared.call.Call.TheVariants as call
+use Rattle.model.specs.declared.report.Named.{Named}
 use Rattle.model.specs.declared.state.Opened.{Opened}
-use Rattle.model.proofs.Clashes.{clash}
 use Rattle.model.proofs.Numbers.{all_pass_member, all_pass_from, closed_shorter, kept_by_shorter}
 use Rattle.model.proofs.Victims.{member_kept, kept_none}
 use Rattle.model.proofs.Recalls.{Grounded, grounded_recall, Recalls, done, next, first_none, first_some, cycle_open}
@@ -28,12 +28,12 @@ use Rattle.model.proofs.LawHolds.{few_open}
 -- different open dispatches have different standings
 standing_apart : (es : List Opened) (d e : ℕ) → member d (numbers es) ≡ true → member e (numbers es) ≡ true → standing es d ≡ standing es e → d ≡ e
 standing_apart [] d e h k same = absurd (false≢true h)
-standing_apart (x ∷ xs) d e h k same = let rest = standing_apart xs d e in grind (arith, nat_tests, rest)
+standing_apart (x ∷ xs) d e h k same = grind (arith, nat_tests, standing_apart xs d e)
 
 -- a filter of a filter
 kept_kept : (p q : ℕ → Bool) (xs : List ℕ) → filter q (filter p xs) ≡ filter (λ x. p x && q x) xs
 kept_kept p q [] = refl
-kept_kept p q (x ∷ xs) = let rest = kept_kept p q xs in grind (arith, rest)
+kept_kept p q (x ∷ xs) = grind (arith, kept_kept p q xs)
 
 -- a number that differs from all is not among them
 not_among : (x d : ℕ) (xs : List ℕ) → list_all (λ y. not (eqb x y)) xs ≡ true → member d xs ≡ true → eqb x d ≡ false
@@ -45,7 +45,7 @@ Newest q es d e = member e (numbers es) ≡ true → q e ≡ true → standing e
 
 -- one more open dispatch in front, and d behind it
 newest_behind : (q : ℕ → Bool) (x : Opened) (es : List Opened) (d e : ℕ) → list_all (λ y. not (eqb x.dispatch y)) (numbers es) ≡ true → member d (numbers es) ≡ true → Newest q es d e → Newest q (x ∷ es) d e
-newest_behind q x es d e differs there rest m t = let other = not_among x.dispatch d (numbers es) differs there in grind (arith, nat_tests, rest, other, m, t)
+newest_behind q x es d e differs there rest m t = grind (arith, nat_tests, rest, not_among x.dispatch d (numbers es) differs there, m, t)
 
 -- the last of a list is its only element, or the last of the rest
 last_cases : (y d : ℕ) (ks : List ℕ) → last (y ∷ ks) ≡ Some d → ((ks ≡ []) × (y ≡ d)) ⊎ (last ks ≡ Some d)
@@ -54,11 +54,11 @@ last_cases y d (k ∷ ks) l = inr l
 
 -- the one in front is the only one who passes
 newest_alone : (q : ℕ → Bool) (x : Opened) (es : List Opened) (d e : ℕ) → filter q (numbers es) ≡ [] → x.dispatch ≡ d → Newest q (x ∷ es) d e
-newest_alone q x es d e none is m t = let out = kept_none q e (numbers es) none t in grind (arith, nat_tests, is, m, out)
+newest_alone q x es d e none is m t = grind (arith, nat_tests, is, m, kept_none q e (numbers es) none t)
 
 -- the last of those who pass is open, and has the greatest standing of those who pass
 last_newest : (q : ℕ → Bool) (es : List Opened) (d e : ℕ) → is_distinct eqb (numbers es) ≡ true → last (filter q (numbers es)) ≡ Some d → (member d (numbers es) ≡ true) × Newest q es d e
-last_newest q [] d e h k = absurd (clash (cc))
+last_newest q [] d e h k = cc
 last_newest q (x ∷ xs) d e h k =
     let parts = and_parts (list_all (λ y. not (eqb x.dispatch y)) (numbers xs)) (is_distinct eqb (numbers xs)) h in
     let behind : last (filter q (numbers xs)) ≡ Some d → (member d (numbers (x ∷ xs)) ≡ true) × Newest q (x ∷ xs) d e =

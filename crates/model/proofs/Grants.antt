@@ -1,28 +1,28 @@
 -- What was granted since opening is backed by a held claim that covers it.
 use Rattle.std.proofs.Common.{◌≡◌, ℕ, Bool, true, false, not, ◌&&◌, eqb, List, [], None, filter, sym, refl, ◌∙◌, subst, arith}
-use Rattle.std.proofs.lemmas.Bool.{cond_both, and_parts, eqb-true, not-true, ne_eqb}
+use Rattle.std.proofs.lemmas.Bool.{and_parts, eqb-true, not-true, ne_eqb}
 use Rattle.std.proofs.lemmas.Bool.Decides.{nat_tests}
 use Rattle.uses.specs.Relations.{Relations, UseLaws}
 use Rattle.orders.specs.Laws.{OrderLaws}
 use Rattle.model.specs.Claims.{placed, of, waits, dispatch_waits, covered, claim_waits}
 use Rattle.model.specs.State.{State, numbers, is_open, taken_out, entered, recall}
-use Rattle.model.specs.Recalling.{Order, Named, named, recalling}
-use Rattle.model.specs.Calls.{is_granted, is_covered, checks, refusal, Effect, plain, claimed, after_entry, accepted, woken, step}
+use Rattle.model.specs.Recalling.{Order, named, recalling}
+use Rattle.model.specs.Calls.{is_granted, is_covered, checks, refusal, Effect, after_entry, accepted, woken, step}
 use Rattle.model.specs.Invariant.{claim_in_range, WellFormed, Invariant}
 use Rattle.model.specs.Runs.{Run, start, next, at, names, Grants, granted, covered as answered_covered, woken as named_woken, Granted, just_now, before}
 use Rattle.model.specs.Law.{IsEntered, Exclusion}
 use Rattle.model.specs.declared.call.Call.{Call}
 use Rattle.model.specs.declared.call.Call.TheVariants as call
+use Rattle.model.specs.declared.report.Named.{Named}
 use Rattle.model.specs.declared.state.Claim.{Claim}
 use Rattle.model.specs.declared.state.Detection.{Detection}
 use Rattle.model.specs.declared.state.Detection.TheVariants.{Continuous, Periodic}
-use Rattle.model.proofs.Clashes.{clash}
 use Rattle.model.proofs.Anys.{any_wider, any_map, any_kept_by, any_witness}
 use Rattle.model.proofs.ClaimLists.{backed, backed_push, backed_without, backed_covered, backed_apart, covered_push, covered_push_new, covered_without, covered_waiting, any_claims}
 use Rattle.model.proofs.Numbers.{open_closed, any_passes}
 use Rattle.model.proofs.Recalls.{Recalls, done, next as then, recalls}
 use Rattle.model.proofs.Keeps.{grounded}
-use Rattle.model.proofs.Steps.{effect_cases, answers_entered, passed_claim, entry_kept, new_invariant, step_invariant}
+use Rattle.model.proofs.Steps.{asked, effect_cases, claim_cases, answers_entered, passed_claim, entry_kept, new_invariant, step_invariant}
 
 -- from the first state to the second, who is open at the end keeps what backs and what covers
 pub record Carries (u : Relations) (s t : State) : Type 0 where
@@ -92,10 +92,8 @@ module _ (u : Relations) (o : Order) (lawful : OrderLaws o) (s : State) (w : Wel
   accepted_carries : (c : Call) → refusal (checks u s c) ≡ None → Carries u s (accepted u o s c).state
   accepted_carries (call.Open d weight) h = same_carries u s (accepted u o s (call.Open d weight)).state refl
   accepted_carries (call.Claim d section mode) h =
-      let c : Claim = record { dispatch = d; section = section; mode = mode } in
-      cond_both (covered u s.claims d section mode) (plain s is_covered) (claimed u d (after_entry u o s.detection (entered c s)))
-      (λ e. Carries u s e.state) (λ _. same_carries u s s refl)
-      (λ new. claimed_carries c (entry_kept u o lawful s w d section mode (passed_claim u s d section mode h) new))
+      claim_cases u o s d section mode (λ e. Carries u s e.state) (λ _. same_carries u s s refl)
+      (λ new. claimed_carries (asked d section mode) (entry_kept u o lawful s w d section mode (passed_claim u s d section mode h) new))
   accepted_carries (call.Close d) h = taken_out_carries u s d
   accepted_carries (call.Withdraw d) h = taken_out_carries u s d
   accepted_carries (call.Acknowledge d) h = same_carries u s (accepted u o s (call.Acknowledge d)).state refl
@@ -111,10 +109,10 @@ module _ (u : Relations) (laws : UseLaws u) (o : Order) (lawful : OrderLaws o) (
   granted_backed : (d section mode : ℕ) → (step u o s (call.Claim d section mode)).answer ≡ is_granted → is_open (step u o s (call.Claim d section mode)).state d ≡ true → backed u (step u o s (call.Claim d section mode)).state.claims d section mode ≡ true
   unfolding step
   granted_backed d section mode =
-      let c : Claim = record { dispatch = d; section = section; mode = mode } in
+      let c = asked d section mode in
       let P : Effect → Type 0 = λ e. e.answer ≡ is_granted → is_open e.state d ≡ true → backed u e.state.claims d section mode ≡ true in
-      effect_cases u o s (call.Claim d section mode) P (λ n h a. absurd (clash (cc)))
-      (λ h. cond_both (covered u s.claims d section mode) (plain s is_covered) (claimed u d (after_entry u o s.detection (entered c s))) P (λ k a. absurd (clash (cc)))
+      effect_cases u o s (call.Claim d section mode) P (λ n h a. cc)
+      (λ h. claim_cases u o s d section mode P (λ k a. cc)
       (λ new a here.
       let passed = passed_claim u s d section mode h in
       let kept = entry_kept u o lawful s w d section mode passed new in
@@ -127,12 +125,10 @@ module _ (u : Relations) (laws : UseLaws u) (o : Order) (lawful : OrderLaws o) (
   covered_backed : (d section mode : ℕ) → (step u o s (call.Claim d section mode)).answer ≡ is_covered → backed u (step u o s (call.Claim d section mode)).state.claims d section mode ≡ true
   unfolding step
   covered_backed d section mode =
-      let c : Claim = record { dispatch = d; section = section; mode = mode } in
       let P : Effect → Type 0 = λ e. e.answer ≡ is_covered → backed u e.state.claims d section mode ≡ true in
-      effect_cases u o s (call.Claim d section mode) P (λ n h a. absurd (clash (cc)))
-      (λ h. cond_both (covered u s.claims d section mode) (plain s is_covered) (claimed u d (after_entry u o s.detection (entered c s))) P
-      (λ k a. backed_covered u s.claims d section mode (passed_claim u s d section mode h).runs k)
-      (λ new a. absurd (subst IsEntered a (answers_entered u d (after_entry u o s.detection (entered c s))))))
+      effect_cases u o s (call.Claim d section mode) P (λ n h a. cc)
+      (λ h. claim_cases u o s d section mode P (λ k a. backed_covered u s.claims d section mode (passed_claim u s d section mode h).runs k)
+      (λ new a. absurd (subst IsEntered a (answers_entered u d (after_entry u o s.detection (entered (asked d section mode) s))))))
 
   -- whoever is named as woken runs
   woken_runs : (t : State) (d section : ℕ) → names (woken u s t) d section → dispatch_waits u t.claims d ≡ false

@@ -1,12 +1,17 @@
 -- Graphs: the closure of a relation is what it leads to, and chains without a cycle are short.
-use Rattle.std.proofs.Common.{◌≡◌, ℕ, zero, suc, ◌<◌, ◌≤◌, Bool, true, false, cond, not, ◌&&◌, eqb, List, [], ◌∷◌, length, Decides, sym, refl, subst, inl, inr, arith}
-use Rattle.std.specs.List.{list_all, AllByRecursion}
+use Rattle.std.proofs.Common.{◌≡◌, ℕ, ◌<◌, ◌≤◌, Bool, true, false, not, ◌&&◌, eqb, List, [], ◌∷◌, length, Decides, sym, refl, ◌∙◌, subst, inl, inr, arith}
+use Rattle.std.specs.List.{list_all, list_any, AllByRecursion, IsDistinct}
+use Rattle.std.specs.Set.{is_member}
 use Rattle.std.proofs.ByRecursion.{All-weaker, Decides-by_and}
-use Rattle.std.proofs.lemmas.Bool.{false≢true, not-true, and_parts, and_from, or_cases, or_left, eqb-true, cond_both}
+use Rattle.std.proofs.lemmas.Cmp.{nat_eq_equiv}
+use Rattle.std.proofs.lemmas.Map.Made.{length-le_from_is_member}
+use Rattle.std.proofs.lemmas.Map.Steps.{length-le_from_distinct_below}
+use Rattle.std.proofs.lemmas.Bool.{false≢true, not-true, not_from_false, and_parts, and_from, or_cases, or_left, eqb-true}
 use Rattle.std.proofs.lemmas.Bool.Decides.{nat_tests, Decides-eqb, Decides-not}
 use Rattle.model.specs.Search.{member, is_distinct}
 use Rattle.model.specs.Graph.{Leads, OnCycle, Chain, end_of, by_way_of, closure, on_cycle}
 use Rattle.model.specs.Graph.Leads.{one, more}
+use Rattle.model.proofs.Anys.{any_same, any_all}
 
 -- leading on from where one leads is leading there from the start
 pub leads_join : (r : ℕ → ℕ → Bool) {a b c : ℕ} → Leads r a b → Leads r b c → Leads r a c
@@ -85,58 +90,32 @@ closure_complete ks r listed (more h l) =
 pub on_cycle_exact : (ks : List ℕ) (r : ℕ → ℕ → Bool) → ((a b : ℕ) → r a b ≡ true → member b ks ≡ true) → (a : ℕ) → Decides (on_cycle ks r a) (OnCycle r a)
 on_cycle_exact ks r listed a = (closure_sound ks r a a, λ l. closure_complete ks r listed l)
 
--- the list without the first place of a number
-abbrev without : ℕ → List ℕ → List ℕ
-without x [] = []
-without x (y ∷ ys) = cond (eqb y x) ys (y ∷ without x ys)
+-- a list has a number, by the library's word
+member_is : (x : ℕ) (ys : List ℕ) → is_member eqb ys x ≡ member x ys
+member_is x ys = any_same (eqb x) (λ y. eqb y x) (λ y. grind (arith, nat_tests)) ys
 
--- a member taken out leaves one place less
-without_shorter : (x : ℕ) (ys : List ℕ) → member x ys ≡ true → length (without x ys) < length ys
-without_shorter x [] h = absurd (false≢true h)
-without_shorter x (y ∷ ys) h =
-    cond_both (eqb y x) ys (y ∷ without x ys) (λ zs. length zs < length (y ∷ ys)) (λ e. omega arith)
-    (λ e. omega (arith, without_shorter x ys (grind (arith, nat_tests))))
+-- what all of a list have, each member has
+of_all : (P : ℕ → Type 0) (xs : List ℕ) → AllByRecursion P xs → (q : ℕ) → list_any (eqb q) xs ≡ true → P q
+of_all P xs h q m = let x = any_all (eqb q) P xs h m in subst P (sym (eqb-true q x.0 x.2)) x.1
 
--- the other members stay when one is taken out
-without_keeps : (x z : ℕ) (ys : List ℕ) → eqb x z ≡ false → member z ys ≡ true → member z (without x ys) ≡ true
-without_keeps x z [] d h = h
-without_keeps x z (y ∷ ys) d h =
-    cond_both (eqb y x) ys (y ∷ without x ys) (λ zs. member z zs ≡ true) (λ e. grind (arith, nat_tests))
-    (λ e. grind (arith, nat_tests, without_keeps x z ys d))
-
--- members that all differ from x are members without it
-others_stay : (x : ℕ) (zs ys : List ℕ) → list_all (λ z. not (eqb x z)) zs ≡ true → AllByRecursion (λ z. member z ys ≡ true) zs → AllByRecursion (λ z. member z (without x ys) ≡ true) zs
-others_stay x [] ys d h = tt
-others_stay x (z ∷ zs) ys d h =
-    let p = and_parts (not (eqb x z)) (list_all (λ y. not (eqb x y)) zs) d in
-    (without_keeps x z ys (not-true (eqb x z) p.0) h.0, others_stay x zs ys p.1 h.1)
+-- numbers are distinct, by the library's word
+distinct_is : (xs : List ℕ) → is_distinct eqb xs ≡ true → IsDistinct eqb xs
+unfolding IsDistinct
+distinct_is [] d = tt
+distinct_is (x ∷ xs) d =
+    let p = and_parts (list_all (λ y. not (eqb x y)) xs) (is_distinct eqb xs) d in
+    ((differs x xs).0 p.0, distinct_is xs p.1)
+  where
+    differs : (a : ℕ) (bs : List ℕ) → Decides (list_all (λ b. not (eqb a b)) bs) (AllByRecursion (λ b. eqb a b ≡ false) bs)
+    differs a bs = Decides-by_and (λ b. not (eqb a b)) (λ b. eqb a b ≡ false) (list_all (λ b. not (eqb a b))) (λ b. (not-true (eqb a b), not_from_false (eqb a b))) refl (λ _ _. refl) bs
 
 -- distinct numbers that are all members of a list are no more than its places
 pub pigeonhole : (xs ys : List ℕ) → is_distinct eqb xs ≡ true → AllByRecursion (λ x. member x ys ≡ true) xs → length xs ≤ length ys
-pigeonhole [] ys d h = omega arith
-pigeonhole (x ∷ xs) ys d h =
-    let p = and_parts (list_all (λ y. not (eqb x y)) xs) (is_distinct eqb xs) d in
-    omega (arith, pigeonhole xs (without x ys) p.1 (others_stay x xs ys p.0 h.1), without_shorter x ys h.0)
-
--- the numbers below n
-abbrev below : ℕ → List ℕ
-below zero = []
-below (suc n) = n ∷ below n
-
--- there are n numbers below n
-length_below : (n : ℕ) → length (below n) ≡ n
-length_below zero = refl
-length_below (suc n) = omega (arith, length_below n)
-
--- each number below n is in their list
-below_member : (n x : ℕ) → x < n → member x (below n) ≡ true
-below_member zero x h = grind arith
-below_member (suc n) x h = grind (arith, nat_tests, below_member n x)
+pigeonhole xs ys d h = length-le_from_is_member nat_eq_equiv xs ys (distinct_is xs d) (λ q m. member_is q ys ∙ of_all (λ x. member x ys ≡ true) xs h q m)
 
 -- distinct numbers below n are at most n
 pub at_most : (n : ℕ) (xs : List ℕ) → is_distinct eqb xs ≡ true → AllByRecursion (λ x. x < n) xs → length xs ≤ n
-at_most n xs d h =
-    rw length_below at (pigeonhole xs (below n) d (All-weaker (λ x. x < n) (λ x. member x (below n) ≡ true) (below_member n) xs h))
+at_most n xs d h = length-le_from_distinct_below xs n (distinct_is xs d) (of_all (λ x. x < n) xs h)
 
 -- each number that a chain steps to is listed
 pub chain_members : (ks : List ℕ) (r : ℕ → ℕ → Bool) → ((a b : ℕ) → r a b ≡ true → member b ks ≡ true) → (a : ℕ) (bs : List ℕ) → Chain r a bs → AllByRecursion (λ b. member b ks ≡ true) bs

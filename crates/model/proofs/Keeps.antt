@@ -32,7 +32,7 @@ module _ (u : Relations) where
 
 entries_below : (d : ℕ) (es : List Opened) → list_all entry_in_range es ≡ true → member d (numbers es) ≡ true → d < 64
 entries_below d [] h k = absurd (false≢true k)
-entries_below d (e ∷ es) h k = let rest = entries_below d es in grind (arith, nat_tests, rest)
+entries_below d (e ∷ es) h k = grind (arith, nat_tests, entries_below d es)
 
 module _ (u : Relations) (s : State) (w : WellFormed u s) where
   -- every claim is of an open dispatch
@@ -97,7 +97,7 @@ module _ (u : Relations) (s : State) (w : WellFormed u s) where
   one_waits_entered c runs e =
       let pushed = waiting_claims_push u s.claims c e in
       ⊎_elim
-      (λ same. let none = ap (waiting_claims u s.claims) same ∙ waiting_claims_none u s.claims c.dispatch runs in grind (arith, nat_tests, pushed, none))
+      (λ same. grind (arith, nat_tests, pushed, ap (waiting_claims u s.claims) same ∙ waiting_claims_none u s.claims c.dispatch runs))
       (λ other. grind (arith, nat_tests, pushed, other, w.one_waits e)) (cases_eq e c.dispatch)
 
   -- entering a claim in range, of one who does not wait

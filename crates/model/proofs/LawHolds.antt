@@ -1,12 +1,13 @@
 -- The law holds of every run.
 use Rattle.std.proofs.Common.{◌≡◌, ◌<◌, ◌≤◌, true, ◌⊎◌, List, [], ◌∷◌, ◌++◌, length, sym, ◌∙◌, subst, inl, inr, ⊎_elim, arith}
 use Rattle.std.specs.List.{list_all, AllByRecursion}
-use Rattle.std.proofs.lemmas.Bool.{and_parts, cases_Bool, both_ways, ltb-true}
+use Rattle.std.proofs.lemmas.Bool.Decides.{nat_tests}
+use Rattle.std.proofs.lemmas.Bool.{cases_Bool, both_ways}
 use Rattle.uses.specs.Relations.{Relations, UseLaws}
 use Rattle.orders.specs.Laws.{OrderLaws}
 use Rattle.model.specs.Claims.{waits_for, dispatch_waits}
 use Rattle.model.specs.State.{State, numbers}
-use Rattle.model.specs.Recalling.{Order, Named}
+use Rattle.model.specs.Recalling.{Order}
 use Rattle.model.specs.Calls.{Effect, checks, refusal, effect, step}
 use Rattle.model.specs.Invariant.{entry_in_range, WellFormed, Invariant, NoCycle}
 use Rattle.model.specs.Runs.{Run, start, next, at, EachMoment, EachCall}
@@ -14,20 +15,19 @@ use Rattle.model.specs.Graph.{CycleStands}
 use Rattle.model.specs.Law.{Exclusion, WaitsEnd, Progress, Iff, RecallWhen, RecallWhom, EntersClaim, once_entered, once_recalled, Law}
 use Rattle.model.specs.declared.call.Call.{Call}
 use Rattle.model.specs.declared.call.Call.TheVariants as call
+use Rattle.model.specs.declared.report.Named.{Named}
 use Rattle.model.specs.declared.state.Detection.TheVariants.{Continuous}
 use Rattle.model.specs.declared.state.Opened.{Opened}
-use Rattle.model.proofs.Clashes.{some_after}
 use Rattle.model.proofs.Graphs.{at_most, chain_short, end_member}
 use Rattle.model.proofs.ClaimLists.{waits_waits_for}
-use Rattle.model.proofs.Recalls.{steps_open, recalls_clear, recalls_some, recalls_cycle, Right, recalls_right}
+use Rattle.model.proofs.Recalls.{some_after, steps_open, recalls_clear, recalls_some, recalls_cycle, Right, recalls_right}
 use Rattle.model.proofs.Keeps.{grounded}
 use Rattle.model.proofs.Steps.{Looked, looks, looks_not, looked, step_detection, step_invariant}
 use Rattle.model.proofs.Grants.{run_invariant, exclusion}
 
 numbers_below : (es : List Opened) → list_all entry_in_range es ≡ true → AllByRecursion (λ n. n < 64) (numbers es)
 numbers_below [] h = tt
-numbers_below (e ∷ es) h =
-    let parts = and_parts (entry_in_range e) (list_all entry_in_range es) h in (grind (arith, ltb-true, parts.0), numbers_below es parts.1)
+numbers_below (e ∷ es) h = (grind (arith, nat_tests, h), numbers_below es (grind (arith, h)))
 
 module _ (u : Relations) (s : State) (w : WellFormed u s) where
   -- at most 64 dispatches are open

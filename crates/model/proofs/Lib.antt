@@ -1,4 +1,3 @@
-pub mod Clashes
 pub mod Anys
 pub mod ClaimLists
 pub mod Graphs
@@ -14,3 +13,4 @@ pub mod Exact
 pub mod Wakes
 pub mod Turns
 pub mod Room
+pub mod Places

@@ -10,15 +10,20 @@ use Rattle.model.specs.Search.{any, member}
 use Rattle.model.specs.Graph.{OnCycle, CycleStands, on_cycle}
 use Rattle.model.specs.Claims.{of, without, waits_for}
 use Rattle.model.specs.State.{State, numbers, is_open, recall}
-use Rattle.model.specs.Recalling.{Order, Named, Recalled, summary, strictly_before, unbeaten, first, on_cycles, recall_and, recalling_at_most, recalling}
+use Rattle.model.specs.Recalling.{Order, Recalled, summary, strictly_before, unbeaten, first, on_cycles, recall_and, recalling_at_most, recalling}
 use Rattle.model.specs.Invariant.{NoCycle}
 use Rattle.model.specs.Law.{once_recalled}
+use Rattle.model.specs.declared.report.Named.{Named}
 use Rattle.model.specs.declared.state.Claim.{Claim}
 use Rattle.model.proofs.Graphs.{on_cycle_exact, first_step}
-use Rattle.model.proofs.Clashes.{nonempty, some_after}
 use Rattle.model.proofs.ClaimLists.{waits_for_ends}
 use Rattle.model.proofs.Numbers.{all_pass_member, open_closed, closed_shorter}
 use Rattle.model.proofs.Victims.{last_all, last_none, all_members, member_kept, kept_none, some_first}
+
+-- a list with an element after others is not empty
+pub some_after : {X : Type 0} (xs : List X) (y : X) (ys : List X) → ◌≡◌ {A = List X} [] (xs ++ y ∷ ys) → ⊥
+some_after [] y ys e = cc
+some_after (x ∷ xs) y ys e = cc
 
 -- every claim is of an open dispatch
 abbrev pub Grounded : State → Type 0
@@ -32,7 +37,7 @@ pub data Recalls (u : Relations) (o : Order) : State → List Named → State �
 -- who has claims once a dispatch is taken out
 pub any_of_without : (x d : ℕ) (cs : List Claim) → any (of d) (without x cs) ≡ (not (eqb d x) && any (of d) cs)
 any_of_without x d [] = grind (arith, nat_tests)
-any_of_without x d (c ∷ cs) = let rest = any_of_without x d cs in grind (arith, nat_tests, rest)
+any_of_without x d (c ∷ cs) = grind (arith, nat_tests, any_of_without x d cs)
 
 -- a recall leaves every claim with an open dispatch
 pub grounded_recall : (s : State) (x : ℕ) → Grounded s → Grounded (recall x s)
@@ -128,7 +133,7 @@ module _ (u : Relations) (o : Order) where
   -- where a cycle stands, somebody is recalled
   pub recalls_some : {s t : State} {ns : List Named} → Recalls u o s ns t → (d : ℕ) → OnCycle (waits_for u s.claims) d → ns ≡ [] → ⊥
   recalls_some (done clear) d c e = clear d c
-  recalls_some (next {n = n} {ns = ns} cycle best rest) d c e = nonempty n ns e
+  recalls_some (next cycle best rest) d c e = cc
 
   -- where somebody is recalled, a cycle stood
   pub recalls_cycle : {s t : State} {ns : List Named} → Recalls u o s ns t → (ns ≡ [] → ⊥) → CycleStands (waits_for u s.claims)

@@ -6,16 +6,16 @@ use Rattle.uses.specs.Relations.{Relations}
 use Rattle.orders.specs.Laws.{OrderLaws}
 use Rattle.model.specs.Claims.{without, waits_for, dispatch_waits, covered}
 use Rattle.model.specs.State.{State, new, is_open, taken_out, entered}
-use Rattle.model.specs.Recalling.{Order, Named, Recalled, recalling}
+use Rattle.model.specs.Recalling.{Order, Recalled, recalling}
 use Rattle.model.specs.Calls.{is_granted, is_covered, is_waiting, is_recalled, is_refused, checks, refusal, Effect, plain, claimed, claim_answer, is_named, after_entry, accepted, effect, step}
 use Rattle.model.specs.Invariant.{claim_in_range, WellFormed, Invariant}
 use Rattle.model.specs.Law.{IsEntered, EntersClaim, once_entered}
 use Rattle.model.specs.declared.call.Call.{Call}
 use Rattle.model.specs.declared.call.Call.TheVariants as call
+use Rattle.model.specs.declared.report.Named.{Named}
 use Rattle.model.specs.declared.state.Claim.{Claim}
 use Rattle.model.specs.declared.state.Detection.{Detection}
 use Rattle.model.specs.declared.state.Detection.TheVariants.{Continuous, Periodic}
-use Rattle.model.proofs.Clashes.{clash}
 use Rattle.model.proofs.Graphs.{leads_wider, first_step}
 use Rattle.model.proofs.ClaimLists.{waits_for_without}
 use Rattle.model.proofs.Recalls.{Grounded, Recalls, done, next, recalls, recalls_clear, cycle_open}
@@ -29,9 +29,18 @@ effect_cases u o s c P refused passed = by_refusal (refusal (checks u s c)) refl
     by_refusal None e = passed e
     by_refusal (Some n) e = refused n e
 
+-- the claim that a call asks for
+abbrev pub asked : ℕ → ℕ → ℕ → Claim
+asked d section mode = record { dispatch = d; section = section; mode = mode }
+
+-- a claim that is not refused is covered already, or is entered
+pub claim_cases : (u : Relations) (o : Order) (s : State) (d section mode : ℕ) (P : Effect → Type 0) → (covered u s.claims d section mode ≡ true → P (plain s is_covered)) → (covered u s.claims d section mode ≡ false → P (claimed u d (after_entry u o s.detection (entered (asked d section mode) s)))) → P (accepted u o s (call.Claim d section mode))
+claim_cases u o s d section mode =
+    cond_both (covered u s.claims d section mode) (plain s is_covered) (claimed u d (after_entry u o s.detection (entered (asked d section mode) s)))
+
 -- what a claim that is not refused has passed
 pub record PassedClaim (u : Relations) (s : State) (d section mode : ℕ) : Type 0 where
-  pub right : claim_in_range u s (record { dispatch = d; section = section; mode = mode }) ≡ true
+  pub right : claim_in_range u s (asked d section mode) ≡ true
   pub runs : dispatch_waits u s.claims d ≡ false
   pub room : covered u s.claims d section mode ≡ false → length s.claims < 512
 
@@ -70,7 +79,7 @@ pub data Looked (u : Relations) (o : Order) (s : State) (c : Call) (e : Effect) 
 
 -- a sweep is not refused
 refused_sweep : (u : Relations) (s : State) (c : Call) (n : ℕ) → refusal (checks u s c) ≡ Some n → c ≡ call.Sweep → ⊥
-refused_sweep u s c n h e = let none : ◌≡◌ {A = Option ℕ} None (Some n) = subst (λ (x : Call). refusal (checks u s x) ≡ Some n) e h in clash (cc)
+refused_sweep u s c n h e = let none : ◌≡◌ {A = Option ℕ} None (Some n) = subst (λ (x : Call). refusal (checks u s x) ≡ Some n) e h in cc
 
 -- a refused call enters no claim
 refused_enters : (c : Call) (n : ℕ) → EntersClaim c (is_refused n) → ⊥
@@ -83,27 +92,24 @@ refused_enters call.Sweep n e = e
 
 module _ (u : Relations) (o : Order) (lawful : OrderLaws o) (s : State) (w : WellFormed u s) where
   -- the state with the claim entered is well formed
-  pub entry_kept : (d section mode : ℕ) → PassedClaim u s d section mode → covered u s.claims d section mode ≡ false → WellFormed u (entered (record { dispatch = d; section = section; mode = mode }) s)
-  entry_kept d section mode passed new = entered_kept u s w (record { dispatch = d; section = section; mode = mode }) passed.right passed.runs (passed.room new)
+  pub entry_kept : (d section mode : ℕ) → PassedClaim u s d section mode → covered u s.claims d section mode ≡ false → WellFormed u (entered (asked d section mode) s)
+  entry_kept d section mode passed new = entered_kept u s w (asked d section mode) passed.right passed.runs (passed.room new)
 
   -- a claim that is entered looks for cycles in a continuous book
-  looked_after_entry : (d section mode : ℕ) → WellFormed u (entered (record { dispatch = d; section = section; mode = mode }) s) → (detection : Detection) → s.detection ≡ detection → Looked u o s (call.Claim d section mode) (claimed u d (after_entry u o detection (entered (record { dispatch = d; section = section; mode = mode }) s)))
+  looked_after_entry : (d section mode : ℕ) → WellFormed u (entered (asked d section mode) s) → (detection : Detection) → s.detection ≡ detection → Looked u o s (call.Claim d section mode) (claimed u d (after_entry u o detection (entered (asked d section mode) s)))
   looked_after_entry d section mode kept Continuous is =
-      let t = entered (record { dispatch = d; section = section; mode = mode }) s in
+      let t = entered (asked d section mode) s in
       looks (grounded u t kept) (recalls u o lawful t (grounded u t kept)) (inr (is, answers_entered u d (recalling u o t)))
-  looked_after_entry d section mode kept Periodic is = looks_not refl (λ e. clash (cc)) (λ k e. clash (cc))
+  looked_after_entry d section mode kept Periodic is = looks_not refl (λ e. cc) (λ k e. cc)
 
   looked_accepted : (c : Call) → refusal (checks u s c) ≡ None → Looked u o s c (accepted u o s c)
-  looked_accepted (call.Open d weight) h = looks_not refl (λ e. clash (cc)) (λ k e. e)
+  looked_accepted (call.Open d weight) h = looks_not refl (λ e. cc) (λ k e. e)
   looked_accepted (call.Claim d section mode) h =
-      let passed = passed_claim u s d section mode h in
-      cond_both (covered u s.claims d section mode) (plain s is_covered)
-      (claimed u d (after_entry u o s.detection (entered (record { dispatch = d; section = section; mode = mode }) s)))
-      (Looked u o s (call.Claim d section mode)) (λ _. looks_not refl (λ e. clash (cc)) (λ k e. e))
-      (λ new. looked_after_entry d section mode (entry_kept d section mode passed new) s.detection refl)
-  looked_accepted (call.Close d) h = looks_not refl (λ e. clash (cc)) (λ k e. e)
-  looked_accepted (call.Withdraw d) h = looks_not refl (λ e. clash (cc)) (λ k e. e)
-  looked_accepted (call.Acknowledge d) h = looks_not refl (λ e. clash (cc)) (λ k e. e)
+      claim_cases u o s d section mode (Looked u o s (call.Claim d section mode)) (λ _. looks_not refl (λ e. cc) (λ k e. e))
+      (λ new. looked_after_entry d section mode (entry_kept d section mode (passed_claim u s d section mode h) new) s.detection refl)
+  looked_accepted (call.Close d) h = looks_not refl (λ e. cc) (λ k e. e)
+  looked_accepted (call.Withdraw d) h = looks_not refl (λ e. cc) (λ k e. e)
+  looked_accepted (call.Acknowledge d) h = looks_not refl (λ e. cc) (λ k e. e)
   looked_accepted call.Sweep h = looks (grounded u s w) (recalls u o lawful s (grounded u s w)) (inl refl)
 
   -- every call looks for cycles, or recalls nobody
@@ -117,10 +123,8 @@ module _ (u : Relations) (o : Order) (lawful : OrderLaws o) (s : State) (w : Wel
   accepted_detection : (c : Call) → refusal (checks u s c) ≡ None → (accepted u o s c).state.detection ≡ s.detection
   accepted_detection (call.Open d weight) h = refl
   accepted_detection (call.Claim d section mode) h =
-      let c : Claim = record { dispatch = d; section = section; mode = mode } in
-      cond_both (covered u s.claims d section mode) (plain s is_covered) (claimed u d (after_entry u o s.detection (entered c s)))
-      (λ e. e.state.detection ≡ s.detection) (λ _. refl)
-      (λ new. entry_detection (entered c s) (entry_kept d section mode (passed_claim u s d section mode h) new) s.detection)
+      claim_cases u o s d section mode (λ e. e.state.detection ≡ s.detection) (λ _. refl)
+      (λ new. entry_detection (entered (asked d section mode) s) (entry_kept d section mode (passed_claim u s d section mode h) new) s.detection)
   accepted_detection (call.Close d) h = refl
   accepted_detection (call.Withdraw d) h = refl
   accepted_detection (call.Acknowledge d) h = refl
@@ -143,7 +147,7 @@ module _ (u : Relations) (o : Order) (lawful : OrderLaws o) (s : State) (i : Inv
 
   entry_invariant : (t : State) → WellFormed u t → (detection : Detection) → t.detection ≡ detection → Invariant u (after_entry u o detection t).state
   entry_invariant t kept Continuous is = recalling_invariant t kept
-  entry_invariant t kept Periodic is = record { well_formed = kept; no_cycle = λ e. absurd (clash (cc)) }
+  entry_invariant t kept Periodic is = record { well_formed = kept; no_cycle = λ e. cc }
 
   -- taking out leaves no cycle where none stood
   taken_out_invariant : (d : ℕ) → Invariant u (taken_out d s)
@@ -159,10 +163,8 @@ module _ (u : Relations) (o : Order) (lawful : OrderLaws o) (s : State) (i : Inv
       let passed = passed_opening u s d weight h in
       record { well_formed = opening_kept u s w d weight passed.0 passed.1 passed.2 passed.3; no_cycle = i.no_cycle }
   accepted_invariant (call.Claim d section mode) h =
-      let c : Claim = record { dispatch = d; section = section; mode = mode } in
-      cond_both (covered u s.claims d section mode) (plain s is_covered) (claimed u d (after_entry u o s.detection (entered c s)))
-      (λ e. Invariant u e.state) (λ _. i)
-      (λ new. entry_invariant (entered c s) (entry_kept u o lawful s w d section mode (passed_claim u s d section mode h) new) s.detection refl)
+      claim_cases u o s d section mode (λ e. Invariant u e.state) (λ _. i)
+      (λ new. entry_invariant (entered (asked d section mode) s) (entry_kept u o lawful s w d section mode (passed_claim u s d section mode h) new) s.detection refl)
   accepted_invariant (call.Close d) h = taken_out_invariant d
   accepted_invariant (call.Withdraw d) h = taken_out_invariant d
   accepted_invariant (call.Acknowledge d) h = record { well_formed = acknowledged_kept u s w d; no_cycle = i.no_cycle }

@@ -2,8 +2,10 @@
 use Rattle.std.proofs.Common.{◌≡◌, ℕ, zero, suc, ◌≤◌, Bool, true, false, cond, not, ◌&&◌, eqb, List, [], ◌∷◌, ◌++◌, length, Some, None, filter, Option, sym, refl, ap, ◌∙◌, subst, arith}
 use Rattle.std.specs.List.{list_all}
 use Rattle.std.proofs.lemmas.List.Elements.{filter-append}
+use Rattle.std.proofs.lemmas.List.Folds.{list_all-append}
 use Rattle.std.proofs.lemmas.List.{nil_from_length, append-nil}
-use Rattle.std.proofs.lemmas.Bool.{or_left, or_right, eq-eqb, cond_both, false≢true}
+use Rattle.std.proofs.lemmas.Bool.{or_right, cond_both, false≢true}
+use Rattle.std.proofs.lemmas.Bool.Decides.{nat_tests}
 use Rattle.uses.specs.Relations.{Relations}
 use Rattle.orders.specs.Laws.{OrderLaws}
 use Rattle.model.specs.Search.{member, last}
@@ -20,7 +22,7 @@ module _ (u : Relations) (o : Order) (lawful : OrderLaws o) where
   -- one turn is the same, whatever follows gives the same
   same_turn : (s : State) (again again' : State → Recalled) → Grounded s → ((d : ℕ) → is_open s d ≡ true → again (recall d s) ≡ again' (recall d s)) → (v : Option ℕ) → first u o s (on_cycles u s) ≡ v → recall_and u again s v ≡ recall_and u again' s v
   same_turn s again again' g same None e = refl
-  same_turn s again again' g same (Some d) e = let rest = same d (victim_open s g d e) in grind (arith, rest)
+  same_turn s again again' g same (Some d) e = grind (arith, same d (victim_open s g d e))
 
   -- where nobody is open, nobody is recalled
   nobody_open : (s : State) (again : State → Recalled) → Grounded s → length s.opened ≤ 0 → (v : Option ℕ) → first u o s (on_cycles u s) ≡ v → recall_and u again s v ≡ nobody s
@@ -67,16 +69,12 @@ better u o s d (Some b) = cond (o (summary u s d) (summary u s b)) (Some d) (Som
 
 -- a test of all, of a list and one more
 all_pass_more : {X : Type 0} (p : X → Bool) (xs : List X) (x : X) → list_all p (xs ++ x ∷ []) ≡ (list_all p xs && p x)
-all_pass_more p [] x = grind arith
-all_pass_more p (y ∷ ys) x = let rest = all_pass_more p ys x in grind (arith, rest)
+all_pass_more p xs x = grind (arith, list_all-append p xs (x ∷ []))
 
 -- filters that agree on a list keep the same
 pub kept_same : (p q : ℕ → Bool) (xs : List ℕ) → ((x : ℕ) → member x xs ≡ true → p x ≡ q x) → filter p xs ≡ filter q xs
 kept_same p q [] same = refl
-kept_same p q (x ∷ xs) same =
-    let here = same x (or_left (eqb x x) (member x xs) (eq-eqb x x refl)) in
-    let rest = kept_same p q xs (λ y m. same y (or_right (eqb x y) (member y xs) m)) in
-    grind (arith, here, rest)
+kept_same p q (x ∷ xs) same = grind (arith, nat_tests, same x, kept_same p q xs (λ y m. same y (or_right (eqb x y) (member y xs) m)))
 
 -- the last of a list and one more
 last_push : {X : Type 0} (xs : List X) (x : X) → last (xs ++ x ∷ []) ≡ Some x

@@ -11,14 +11,14 @@ use Rattle.model.proofs.ClaimLists.{dispatch_waits_push}
 -- a filter that nobody passes
 pub kept_nobody : {X : Type 0} (p : X → Bool) → ((x : X) → p x ≡ false) → (xs : List X) → filter p xs ≡ []
 kept_nobody p none [] = refl
-kept_nobody p none (x ∷ xs) = let here = none x in let rest = kept_nobody p none xs in grind (arith, here, rest)
+kept_nobody p none (x ∷ xs) = grind (arith, none x, kept_nobody p none xs)
 
 module _ (u : Relations) (s t : State) where
   -- nobody is woken where whoever waited still waits
   pub woken_nobody : ((d : ℕ) → dispatch_waits u s.claims d ≡ true → dispatch_waits u t.claims d ≡ true) → woken u s t ≡ []
   woken_nobody still =
       ap (map (named u s))
-      (kept_nobody (λ d. dispatch_waits u s.claims d && not (dispatch_waits u t.claims d)) (λ d. let here = still d in grind (arith, here))
+      (kept_nobody (λ d. dispatch_waits u s.claims d && not (dispatch_waits u t.claims d)) (λ d. grind (arith, still d))
       (numbers t.opened))
 
   -- nobody is woken where the claims stay
@@ -27,4 +27,4 @@ module _ (u : Relations) (s t : State) where
 
 -- nobody is woken by the entry of a claim
 pub woken_entered : (u : Relations) (s : State) (c : Claim) → woken u s (entered c s) ≡ []
-woken_entered u s c = woken_nobody u s (entered c s) (λ d h. let pushed = dispatch_waits_push u s.claims c d in grind (arith, pushed, h))
+woken_entered u s c = woken_nobody u s (entered c s) (λ d h. grind (arith, dispatch_waits_push u s.claims c d, h))

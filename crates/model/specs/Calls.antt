@@ -1,12 +1,13 @@
 -- The six calls: what each answers, whom it recalls and wakes, and the state it leaves. `u` is the meaning of the use table, `o` that of the recall order.
-use Rattle.std.specs.Prelude.{ℕ, Bool, cond, not, ◌&&◌, List, [], ◌∷◌, ◌++◌, map, length, take, replicate, Some, None, filter, Option, ◌==◌, nat_eq, nat_le, nat_lt}
+use Rattle.std.specs.Prelude.{ℕ, Bool, if◌then◌else◌, not, ◌&&◌, List, [], ◌∷◌, ◌++◌, map, length, take, replicate, Some, None, filter, Option, ◌==◌, nat_eq, nat_le, nat_lt}
 use Rattle.uses.specs.Relations.{Relations}
 use Rattle.model.specs.Search.{any}
 use Rattle.model.specs.Claims.{dispatch_waits, covered}
 use Rattle.model.specs.State.{State, numbers, is_open, is_free, taken_out, entered}
-use Rattle.model.specs.Recalling.{Order, Named, named, Recalled, nobody, recalling}
+use Rattle.model.specs.Recalling.{Order, named, Recalled, nobody, recalling}
 use Rattle.model.specs.declared.call.Call.{Call}
 use Rattle.model.specs.declared.call.Call.TheVariants as call
+use Rattle.model.specs.declared.report.Named.{Named}
 use Rattle.model.specs.declared.report.Report.{Report}
 use Rattle.model.specs.declared.state.Detection.{Detection}
 use Rattle.model.specs.declared.state.Detection.TheVariants.{Continuous, Periodic}
@@ -78,7 +79,7 @@ checks u s call.Sweep = []
 -- the number of the first check that applies
 abbrev pub refusal : List Check → Option ℕ
 refusal [] = None
-refusal (c ∷ cs) = cond c.0 (Some c.1) (refusal cs)
+refusal (c ∷ cs) = if c.0 then Some c.1 else refusal cs
 
 -- what a call does: its answer, who is recalled, in order of recall, and the state left
 pub record Effect : Type 0 where
@@ -114,7 +115,8 @@ is_named d ns = any (λ n. nat_eq n.dispatch d) ns
 
 -- what is answered to a claimant: recalled if it was recalled, else waits if it waits, else granted
 abbrev pub claim_answer : Relations → ℕ → Recalled → Answer
-claim_answer u d r = cond (is_named d r.recalls) is_recalled (cond (dispatch_waits u r.state.claims d) is_waiting is_granted)
+claim_answer u d r =
+    if is_named d r.recalls then is_recalled else if dispatch_waits u r.state.claims d then is_waiting else is_granted
 
 -- a claim that was entered has this effect
 abbrev pub claimed : Relations → ℕ → Recalled → Effect
@@ -128,8 +130,8 @@ swept r = record { state = r.state; answer = is_ok; recalls = r.recalls }
 abbrev pub accepted : Relations → Order → State → Call → Effect
 accepted u o s (call.Open d weight) = plain (opening d weight s) is_ok
 accepted u o s (call.Claim d section mode) =
-    cond (covered u s.claims d section mode) (plain s is_covered)
-    (claimed u d (after_entry u o s.detection (entered (record { dispatch = d; section = section; mode = mode }) s)))
+    if covered u s.claims d section mode then plain s is_covered
+    else claimed u d (after_entry u o s.detection (entered (record { dispatch = d; section = section; mode = mode }) s))
 accepted u o s (call.Close d) = plain (taken_out d s) is_ok
 accepted u o s (call.Withdraw d) = plain (taken_out d s) is_ok
 accepted u o s (call.Acknowledge d) = plain (acknowledged d s) is_ok

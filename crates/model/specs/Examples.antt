@@ -7,10 +7,11 @@ use Rattle.uses.specs.FiveUses.{five_uses, IS, IX, S}
 use Rattle.uses.specs.Spans.{spans}
 use Rattle.orders.specs.Orders.{newest, lightest}
 use Rattle.model.specs.State.{State, new}
-use Rattle.model.specs.Recalling.{Order, Named}
+use Rattle.model.specs.Recalling.{Order}
 use Rattle.model.specs.Calls.{Answer, step, is_ok, is_granted, is_covered, is_waiting, is_recalled, is_refused}
 use Rattle.model.specs.declared.call.Call.{Call}
 use Rattle.model.specs.declared.call.Call.TheVariants.{Open, Claim, Close, Acknowledge, Sweep}
+use Rattle.model.specs.declared.report.Named.{Named}
 use Rattle.model.specs.declared.state.Detection.{Detection}
 use Rattle.model.specs.declared.state.Detection.TheVariants.{Continuous, Periodic}
 

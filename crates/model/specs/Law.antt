@@ -4,11 +4,12 @@ use Rattle.uses.specs.Relations.{Relations}
 use Rattle.model.specs.Graph.{OnCycle, CycleStands, Chain, end_of}
 use Rattle.model.specs.Claims.{dispatch_waits, waits_for}
 use Rattle.model.specs.State.{State, is_open, recall, entered}
-use Rattle.model.specs.Recalling.{Order, Named, strictly_before}
+use Rattle.model.specs.Recalling.{Order, strictly_before}
 use Rattle.model.specs.Calls.{Answer, is_granted, is_covered, is_waiting, is_recalled, is_ok, is_refused}
 use Rattle.model.specs.Runs.{Run, at, outcome, EachMoment, EachCall, Granted}
 use Rattle.model.specs.declared.call.Call.{Call}
 use Rattle.model.specs.declared.call.Call.TheVariants as call
+use Rattle.model.specs.declared.report.Named.{Named}
 use Rattle.model.specs.declared.state.Detection.TheVariants.{Continuous}
 
 -- two different open dispatches that were both granted uses of one section, since opening, were granted uses that do not conflict

@@ -1,5 +1,5 @@
 -- The three questions. They change nothing. `u` is the meaning of the use table.
-use Rattle.std.specs.Prelude.{ℕ, Bool, cond, not, ◌&&◌, Ok, Err, Option, Result}
+use Rattle.std.specs.Prelude.{ℕ, Bool, if◌then◌else◌, not, ◌&&◌, Ok, Err, Option, Result}
 use Rattle.uses.specs.Relations.{Relations}
 use Rattle.model.specs.Claims.{dispatch_waits, waits_for, waiting_section, holds}
 use Rattle.model.specs.State.{State, is_open}
@@ -9,11 +9,13 @@ use Rattle.model.specs.declared.state.Condition.TheVariants.{Free, Running, Wait
 
 -- how a dispatch stands
 abbrev pub condition : Relations → State → ℕ → Condition
-condition u s d = cond (s.recalled d) Recalled (cond (is_open s d) (cond (dispatch_waits u s.claims d) Waiting Running) Free)
+condition u s d =
+    if s.recalled d then Recalled else if is_open s d then (if dispatch_waits u s.claims d then Waiting else Running) else Free
 
 -- a dispatch's condition and the section for which it waits, if it waits; refused by 1
 abbrev pub condition_asked : Relations → State → ℕ → Result (Condition × Option ℕ) ℕ
-condition_asked u s d = cond (number_too_high d).0 (Err (number_too_high d).1) (Ok (condition u s d, waiting_section u s.claims d))
+condition_asked u s d =
+    if (number_too_high d).0 then Err (number_too_high d).1 else Ok (condition u s d, waiting_section u s.claims d)
 
 -- the dispatches for which a dispatch waits; refused by 1, with all marks off
 abbrev pub waited_for : Relations → State → ℕ → ℕ → Bool

@@ -1,5 +1,5 @@
 -- Recalling: who is on a cycle of waits, who of them goes first, and who goes until no cycle stands. `u` is the meaning of the use table, `o` that of the recall order.
-use Rattle.std.specs.Prelude.{ℕ, zero, suc, Bool, cond, not, List, [], ◌∷◌, length, Some, None, filter, Option, ◌==◌}
+use Rattle.std.specs.Prelude.{ℕ, zero, suc, Bool, if◌then◌else◌, not, List, [], ◌∷◌, length, Some, None, filter, Option, ◌==◌}
 use Rattle.std.specs.Option.{unwrap_or}
 use Rattle.std.specs.List.{list_all}
 use Rattle.uses.specs.Relations.{Relations}
@@ -8,6 +8,7 @@ use Rattle.model.specs.Search.{last}
 use Rattle.model.specs.Graph.{on_cycle}
 use Rattle.model.specs.Claims.{waits_for, waiting_section, held}
 use Rattle.model.specs.State.{State, numbers, recall}
+use Rattle.model.specs.declared.report.Named.{Named}
 use Rattle.model.specs.declared.state.Opened.{Opened}
 
 -- whether the first summary goes no later than the second
@@ -17,12 +18,12 @@ Order = Summary → Summary → Bool
 -- how many open dispatches were opened before the dispatch
 abbrev pub standing : List Opened → ℕ → ℕ
 standing [] d = 0
-standing (e ∷ es) d = cond (e.dispatch == d) 0 (suc (standing es d))
+standing (e ∷ es) d = if e.dispatch == d then 0 else suc (standing es d)
 
 -- the weight of the dispatch
 abbrev pub weight : List Opened → ℕ → ℕ
 weight [] d = 0
-weight (e ∷ es) d = cond (e.dispatch == d) e.weight (weight es d)
+weight (e ∷ es) d = if e.dispatch == d then e.weight else weight es d
 
 -- what the recall order sees of an open dispatch
 abbrev pub summary : Relations → State → ℕ → Summary
@@ -43,11 +44,6 @@ first u o s ds = last (filter (unbeaten u o s ds) ds)
 -- all open dispatches that are on cycles, in order of opening
 unfoldable pub on_cycles : Relations → State → List ℕ
 on_cycles u s = filter (on_cycle (numbers s.opened) (waits_for u s.claims)) (numbers s.opened)
-
--- a dispatch that a report names, with a section
-pub record Named : Type 0 where
-  pub dispatch : ℕ
-  pub section : ℕ
 
 -- the dispatch, with the section of its claim that waits
 abbrev pub named : Relations → State → ℕ → Named

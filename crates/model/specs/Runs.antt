@@ -4,10 +4,11 @@ use Rattle.uses.specs.Relations.{Relations}
 use Rattle.model.specs.Search.{any}
 use Rattle.model.specs.Claims.{claim_waits}
 use Rattle.model.specs.State.{State, new, is_open}
-use Rattle.model.specs.Recalling.{Order, Named}
+use Rattle.model.specs.Recalling.{Order}
 use Rattle.model.specs.Calls.{Outcome, step, is_granted, is_covered}
 use Rattle.model.specs.declared.call.Call.{Call}
 use Rattle.model.specs.declared.call.Call.TheVariants as call
+use Rattle.model.specs.declared.report.Named.{Named}
 use Rattle.model.specs.declared.state.Detection.{Detection}
 
 -- a run: the making of a book, and calls one after another

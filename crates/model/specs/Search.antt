@@ -1,16 +1,8 @@
 -- Looking through a list.
-use Rattle.std.specs.Prelude.{ℕ, Bool, true, false, cond, not, ◌&&◌, ◌||◌, List, [], ◌∷◌, Some, None, Option, nat_eq}
+use Rattle.std.specs.Prelude.{ℕ, Bool, true, not, ◌&&◌, List, [], ◌∷◌, Some, None, Option, nat_eq}
 use Rattle.std.specs.List.{list_all}
-
--- some element passes
-abbrev pub any : {X : Type 0} → (X → Bool) → List X → Bool
-any p [] = false
-any p (x ∷ xs) = p x || any p xs
-
--- the first element that passes
-abbrev pub find : {X : Type 0} → (X → Bool) → List X → Option X
-find p [] = None
-find p (x ∷ xs) = cond (p x) (Some x) (find p xs)
+-- some element passes; the first element that passes
+pub use Rattle.std.specs.List.{list_any as any, find}
 
 -- the last element
 abbrev pub last : {X : Type 0} → List X → Option X

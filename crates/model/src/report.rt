@@ -1,8 +1,18 @@
 // What a call tells beside its answer: whom it recalled and whom it woke.
-ghost use Rattle.std.specs.Prelude.{◌≡◌, []};
+ghost use Rattle.std.specs.Prelude.{◌≡◌, ◌+◌, ◌<◌, List, [], ◌∷◌, ◌++◌};
 ghost use Rattle.model.specs.Calls.{filled};
 
+// A dispatch that a report names.
+#[derive(Clone, Copy, Debug, PartialEq, Eq)]
+pub struct Named {
+    pub dispatch: u8,
+    // the section of its claim that waited
+    pub section: u16,
+}
+
 // A report, in a place that the caller provides.
+// Kept: two counts and two arrays of 64 places side by side, with 255 and 65535 in unused ones, are
+// the product's form of a report.
 #[derive(Clone, Copy)]
 pub struct Report {
     // how many were recalled: the first places
@@ -26,5 +36,31 @@ impl Report {
             dispatches: [255; 64],
             sections: [65535; 64],
         }
+    }
+
+    // Names one more recalled dispatch, where nobody is named as woken yet.
+    // Kept: beside `name_woken`, though both write one place: what they share is two lines, and a
+    // third method for those would need a contract longer than they are.
+    pub fn name_recalled(&mut self, named: Named)
+        requires { self.old.recalled < 64 }
+        ensures { (recalls : List Named) → self.old ≡ filled recalls [] → self.new ≡ filled (recalls ++ named ∷ []) [] }
+    {
+        let place = self.recalled as usize;
+        self.dispatches[place] = named.dispatch;
+        self.sections[place] = named.section;
+        self.recalled += 1;
+    }
+
+    // Names one more woken dispatch.
+    pub fn name_woken(&mut self, named: Named)
+        requires { self.old.recalled + self.old.woken < 64 }
+        ensures recalled { self.new.recalled ≡ self.old.recalled }
+        ensures woken { self.new.woken ≡ self.old.woken + 1 }
+        ensures named { (recalls wakes : List Named) → self.old ≡ filled recalls wakes → self.new ≡ filled recalls (wakes ++ named ∷ []) }
+    {
+        let place = self.recalled as usize + self.woken as usize;
+        self.dispatches[place] = named.dispatch;
+        self.sections[place] = named.section;
+        self.woken += 1;
     }
 }

@@ -12,7 +12,7 @@ pub struct Then<A, B> {
 }
 
 impl<A: RecallOrder, B: RecallOrder> RecallOrder for Then<A, B> {
-    ghost meaning = { λ o. pair (A.RecallOrder.meaning o.first) (B.RecallOrder.meaning o.second) };
+    ghost meaning = { λ o. pair (A.meaning o.first) (B.meaning o.second) };
 
     ghost lawful = { Prim.search rules };
 

@@ -1,7 +1,8 @@
 -- Lemmas on bytes that are put behind others.
-use Rattle.std.proofs.Common.{◌≡◌, ℕ, zero, suc, ◌+◌, ◌-◌, ◌<◌, ◌≤◌, List, [], ◌∷◌, ◌++◌, length, take, drop, set, replicate, sym, refl, ap, ◌∙◌, append_assoc, arith, length-append, length-take}
-use Rattle.std.proofs.lemmas.List.{take_all, take-append-le, take-append-drop, append-nil, drop-set-lt, drop-drop, drop-replicate, replicate-append-replicate}
-use Rattle.printed.specs.Text.{places, put_behind}
+use Rattle.std.proofs.Common.{◌≡◌, ℕ, zero, suc, ◌+◌, ◌-◌, ◌≤◌, List, [], ◌∷◌, ◌++◌, length, take, drop, min, replicate, sym, refl, ap, ◌∙◌, subst, append_assoc, arith, length-append, length-take}
+use Rattle.std.proofs.lemmas.List.{append-nil, take_all, take_min, take-append-le, drop-drop, drop-replicate}
+use Rattle.std.proofs.Math.Seq.{take-append-add}
+use Rattle.printed.specs.Text.{put_behind}
 
 -- a cut before more is put behind does not show once all is cut
 pub take_cut : (n : ℕ) (xs ys : List ℕ) → take n (take n xs ++ ys) ≡ take n (xs ++ ys)
@@ -17,6 +18,10 @@ behind_behind before xs ys = take_cut 2048 (before ++ xs) ys ∙ ap (λ (t : Lis
 pub behind_none : (before : List ℕ) → length before ≤ 2048 → before ≡ put_behind before []
 behind_none before h = sym (ap (λ (t : List ℕ). take 2048 t) (append-nil before) ∙ take_all 2048 before h)
 
+-- what is put behind fits
+pub behind_fits : (before xs : List ℕ) → length (put_behind before xs) ≤ 2048
+behind_fits before xs = omega (arith, length-take 2048 (before ++ xs))
+
 -- all that is put behind has room
 pub behind_room : (before xs : List ℕ) → length before + length xs ≤ 2048 → put_behind before xs ≡ before ++ xs
 behind_room before xs h = take_all 2048 (before ++ xs) (omega (arith, length-append before xs))
@@ -25,27 +30,20 @@ behind_room before xs h = take_all 2048 (before ++ xs) (omega (arith, length-app
 pub behind_full : (before xs : List ℕ) → length before ≡ 2048 → before ≡ put_behind before xs
 behind_full before xs e = sym (take-append-le 2048 before xs (omega arith) ∙ take_all 2048 before (omega arith))
 
--- a list in two parts, the second all alike
-pub front_places : (count : ℕ) (bytes : List ℕ) → length bytes ≡ 2048 → count ≤ 2048 → drop count bytes ≡ replicate (2048 - count) 0 → bytes ≡ places (take count bytes)
-front_places count bytes long fits blank =
-    let n : length (take count bytes) ≡ count = omega (arith, length-take count bytes) in
-    sym (take-append-drop count bytes) ∙ ap (λ (t : List ℕ). take count bytes ++ t) (blank ∙ ap (λ (k : ℕ). replicate (2048 - k) 0) (sym n))
+-- of what is put behind there stands as much as has room
+pub take_fitting : (room count : ℕ) (before xs : List ℕ) → length before ≡ count → count ≤ room → take room (before ++ xs) ≡ before ++ take (min (room - count) (length xs)) xs
+take_fitting room count before xs long h =
+    let whole : length before + (room - count) ≡ room = omega arith in
+    subst (λ (n : ℕ). take n (before ++ xs) ≡ before ++ take (room - count) xs) whole (take-append-add before xs (room - count))
+    ∙ ap (λ (t : List ℕ). before ++ t) (sym (take_min (room - count) xs))
 
--- the places after a byte that is set stay blank
-pub blank_more : (bytes : List ℕ) (count byte : ℕ) → length bytes ≡ 2048 → count < 2048 → drop count bytes ≡ replicate (2048 - count) 0 → drop (count + 1) (set bytes count byte) ≡ replicate (2048 - (count + 1)) 0
-blank_more bytes count byte long room blank =
-    drop-set-lt (count + 1) bytes count byte (omega arith)
-    ∙ sym (drop-drop 1 count bytes)
-    ∙ ap (λ (t : List ℕ). drop 1 t) blank
-    ∙ drop-replicate 1 (2048 - count) 0
+-- the places after some that were blank are blank
+pub blank_after : (bytes : List ℕ) (count more : ℕ) → drop count bytes ≡ replicate (2048 - count) 0 → drop (count + more) bytes ≡ replicate (2048 - (count + more)) 0
+blank_after bytes count more blank =
+    sym (drop-drop more count bytes)
+    ∙ ap (λ (t : List ℕ). drop more t) blank
+    ∙ drop-replicate more (2048 - count) 0
     ∙ ap (λ (k : ℕ). replicate k 0) (omega arith)
-
--- a list whose front and rest are blank is blank
-pub all_blank : (count : ℕ) (bytes : List ℕ) → count ≤ 2048 → take count bytes ≡ replicate count 0 → drop count bytes ≡ replicate (2048 - count) 0 → bytes ≡ replicate 2048 0
-all_blank count bytes fits front rest =
-    let both : take count bytes ++ drop count bytes ≡ replicate count 0 ++ replicate (2048 - count) 0 = cc in
-    let whole : count + (2048 - count) ≡ 2048 = omega arith in
-    sym (take-append-drop count bytes) ∙ both ∙ replicate-append-replicate count (2048 - count) 0 ∙ ap (λ (k : ℕ). replicate k 0) whole
 
 -- bytes put behind in two steps
 pub behind_then : (before middle after xs ys zs : List ℕ) → middle ≡ put_behind before xs → after ≡ put_behind middle ys → xs ++ ys ≡ zs → after ≡ put_behind before zs

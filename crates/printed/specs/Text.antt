@@ -1,10 +1,5 @@
 -- The text that a place for printed bytes holds.
 use Rattle.std.specs.Prelude.{ℕ, ◌-◌, List, ◌++◌, length, take, replicate}
-use Rattle.printed.specs.declared.place.Printed.{Printed}
-
--- the printed bytes: those before the count
-abbrev pub text : Printed → List ℕ
-text p = take p.count p.bytes
 
 -- all 2048 places of a text: its bytes, and 0 after them
 abbrev pub places : List ℕ → List ℕ

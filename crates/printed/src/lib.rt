@@ -1,5 +1,4 @@
 #![tactic(auto)]
 
 // Printed bytes in fixed memory.
-mod methods;
 pub mod place;

@@ -1,105 +1,89 @@
 // Handing a ticket in, however its dispatch stands. A ticket cannot be let go, so each trial hands it
 // in before it looks at what was answered.
-use crate::setting::new_book;
+use crate::trial::Trial;
 use book::answers::{Answer, Refusal};
-use book::book::Book;
-use model::report::Report;
 use model::state::Condition;
-use orders::single::Newest;
 use std::process::Abort;
 use std::test::Fail;
-use tickets::ticket::{Ending, Ticket};
-use uses::two_uses::{MOVE, TwoUses};
+use tickets::ticket::Ending;
+use uses::two_uses::MOVE;
 
-// Dispatch 2 is open without a ticket, and holds section 11.
-fn another_holds_eleven(rt: &impl Abort, book: &mut Book<TwoUses, Newest>, report: &mut Report) {
-    assert_eq!(rt; book.open(2, 5, report), Ok(Answer::Ok));
-    assert_eq!(rt; book.claim(2, 11, MOVE, report), Ok(Answer::Granted));
-}
-
-fn check_condition(
-    rt: &impl Abort,
-    book: &Book<TwoUses, Newest>,
-    dispatch: u32,
-    expected: Condition,
-) -> Result<(), Fail> {
-    let standing = book.condition(dispatch)?;
-    assert_eq!(rt; standing.condition, expected);
-    Ok(())
+// A book where dispatch 2 is open without a ticket, and holds section 11.
+fn another_holds_eleven(rt: &impl Abort) -> Trial {
+    let mut trial = Trial::new();
+    assert_eq!(rt; trial.open(2, 5), Ok(Answer::Ok));
+    assert_eq!(rt; trial.claim(2, 11, MOVE), Ok(Answer::Granted));
+    trial
 }
 
 #[test]
 fn a_running_dispatch_is_closed(rt: HostRuntime) -> Result<(), Fail> {
-    let mut book = new_book();
-    let mut report = Report::empty();
-    let ticket = Ticket::open(&mut book, 1, 5, &mut report)?;
+    let mut trial = Trial::new();
+    let ticket = trial.open_ticket(1, 5)?;
     let named = ticket.dispatch();
-    let claimed = ticket.claim(&mut book, 10, MOVE, &mut report);
-    let ended = ticket.hand_in(&mut book, &mut report);
+    let claimed = trial.claim_by(&ticket, 10, MOVE);
+    let ended = trial.hand_in(ticket);
     assert_eq!(rt; named, 1);
     assert_eq!(rt; claimed, Ok(Answer::Granted));
     assert_eq!(rt; ended, Ok(Ending::Closed));
-    check_condition(&rt, &book, 1, Condition::Free)
+    assert_eq!(rt; trial.condition(1), Ok(Condition::Free));
+    Ok(())
 }
 
 #[test]
 fn a_waiting_dispatch_is_withdrawn(rt: HostRuntime) -> Result<(), Fail> {
-    let mut book = new_book();
-    let mut report = Report::empty();
-    another_holds_eleven(&rt, &mut book, &mut report);
-    let ticket = Ticket::open(&mut book, 1, 5, &mut report)?;
-    let claimed = ticket.claim(&mut book, 11, MOVE, &mut report);
-    let ended = ticket.hand_in(&mut book, &mut report);
+    let mut trial = another_holds_eleven(&rt);
+    let ticket = trial.open_ticket(1, 5)?;
+    let claimed = trial.claim_by(&ticket, 11, MOVE);
+    let ended = trial.hand_in(ticket);
     assert_eq!(rt; claimed, Ok(Answer::Waits));
     assert_eq!(rt; ended, Ok(Ending::Withdrawn));
-    check_condition(&rt, &book, 1, Condition::Free)
+    assert_eq!(rt; trial.condition(1), Ok(Condition::Free));
+    Ok(())
 }
 
 #[test]
 fn a_recalled_dispatch_is_acknowledged(rt: HostRuntime) -> Result<(), Fail> {
-    let mut book = new_book();
-    let mut report = Report::empty();
-    another_holds_eleven(&rt, &mut book, &mut report);
-    let ticket = Ticket::open(&mut book, 1, 5, &mut report)?;
-    let first = ticket.claim(&mut book, 10, MOVE, &mut report);
-    let other = book.claim(2, 10, MOVE, &mut report);
-    let second = ticket.claim(&mut book, 11, MOVE, &mut report);
-    let ended = ticket.hand_in(&mut book, &mut report);
+    let mut trial = another_holds_eleven(&rt);
+    let ticket = trial.open_ticket(1, 5)?;
+    let first = trial.claim_by(&ticket, 10, MOVE);
+    let other = trial.claim(2, 10, MOVE);
+    let second = trial.claim_by(&ticket, 11, MOVE);
+    let ended = trial.hand_in(ticket);
     assert_eq!(rt; first, Ok(Answer::Granted));
     assert_eq!(rt; other, Ok(Answer::Waits));
     assert_eq!(rt; second, Ok(Answer::Recalled));
     assert_eq!(rt; ended, Ok(Ending::Acknowledged));
-    check_condition(&rt, &book, 1, Condition::Free)
+    assert_eq!(rt; trial.condition(1), Ok(Condition::Free));
+    Ok(())
 }
 
 #[test]
 fn a_number_that_has_become_free_is_refused(rt: HostRuntime) -> Result<(), Fail> {
-    let mut book = new_book();
-    let mut report = Report::empty();
-    another_holds_eleven(&rt, &mut book, &mut report);
-    let ticket = Ticket::open(&mut book, 1, 5, &mut report)?;
-    let closed = book.close(1, &mut report);
-    let ended = ticket.hand_in(&mut book, &mut report);
+    let mut trial = another_holds_eleven(&rt);
+    let ticket = trial.open_ticket(1, 5)?;
+    let closed = trial.close(1);
+    let ended = trial.hand_in(ticket);
     assert_eq!(rt; closed, Ok(Answer::Ok));
     assert_eq!(rt; ended, Err(Refusal::IsFree));
-    assert_eq!(rt; report.recalled, 0);
-    assert_eq!(rt; report.woken, 0);
-    check_condition(&rt, &book, 2, Condition::Running)
+    assert_eq!(rt; trial.report.recalled, 0);
+    assert_eq!(rt; trial.report.woken, 0);
+    assert_eq!(rt; trial.condition(2), Ok(Condition::Running));
+    Ok(())
 }
 
 #[test]
 fn a_number_opened_again_is_what_the_ticket_names(rt: HostRuntime) -> Result<(), Fail> {
-    let mut book = new_book();
-    let mut report = Report::empty();
-    another_holds_eleven(&rt, &mut book, &mut report);
-    let ticket = Ticket::open(&mut book, 1, 5, &mut report)?;
-    let closed = book.close(1, &mut report);
-    let opened = book.open(1, 7, &mut report);
-    let claimed = book.claim(1, 11, MOVE, &mut report);
-    let ended = ticket.hand_in(&mut book, &mut report);
+    let mut trial = another_holds_eleven(&rt);
+    let ticket = trial.open_ticket(1, 5)?;
+    let closed = trial.close(1);
+    let opened = trial.open(1, 7);
+    let claimed = trial.claim(1, 11, MOVE);
+    let ended = trial.hand_in(ticket);
     assert_eq!(rt; closed, Ok(Answer::Ok));
     assert_eq!(rt; opened, Ok(Answer::Ok));
     assert_eq!(rt; claimed, Ok(Answer::Waits));
     assert_eq!(rt; ended, Ok(Ending::Withdrawn));
-    check_condition(&rt, &book, 1, Condition::Free)
+    assert_eq!(rt; trial.condition(1), Ok(Condition::Free));
+    Ok(())
 }

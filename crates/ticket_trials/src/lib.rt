@@ -6,4 +6,4 @@ mod handing_in;
 #[cfg(test)]
 mod opening;
 #[cfg(test)]
-mod setting;
+mod trial;

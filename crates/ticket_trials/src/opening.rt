@@ -1,32 +1,25 @@
 // An opening that is refused gives no ticket.
-use crate::setting::new_book;
+use crate::trial::Trial;
 use book::answers::Refusal;
-use book::book::Book;
-use model::report::Report;
-use orders::single::Newest;
-use tickets::ticket::Ticket;
-use uses::two_uses::TwoUses;
+use tickets::ticket::Ending;
 
-// Why the opening is refused; nothing, if it is not, and then the ticket is handed in.
-fn refusal_of(book: &mut Book<TwoUses, Newest>, dispatch: u32, weight: u32) -> Option<Refusal> {
-    let mut report = Report::empty();
-    match Ticket::open(book, dispatch, weight, &mut report) {
-        Ok(ticket) => {
-            let _ = ticket.hand_in(book, &mut report);
-            None
-        }
-        Err(refusal) => Some(refusal),
-    }
+// Opens by ticket, and hands the ticket in at once.
+fn open_and_hand_in(trial: &mut Trial, dispatch: u32, weight: u32) -> Result<Ending, Refusal> {
+    let ticket = trial.open_ticket(dispatch, weight)?;
+    trial.hand_in(ticket)
 }
 
 #[test]
 fn a_refused_opening_gives_no_ticket(rt: HostRuntime) {
-    let mut book = new_book();
-    assert_eq!(rt; refusal_of(&mut book, 64, 5), Some(Refusal::NumberTooHigh));
+    let mut trial = Trial::new();
     assert_eq!(rt;
-        refusal_of(&mut book, 63, 1001),
+        open_and_hand_in(&mut trial, 64, 5).err(),
+        Some(Refusal::NumberTooHigh)
+    );
+    assert_eq!(rt;
+        open_and_hand_in(&mut trial, 63, 1001).err(),
         Some(Refusal::WeightTooHigh)
     );
-    assert_eq!(rt; refusal_of(&mut book, 63, 1000), None);
-    assert_eq!(rt; refusal_of(&mut book, 63, 1000), None);
+    assert_eq!(rt; open_and_hand_in(&mut trial, 63, 1000).err(), None);
+    assert_eq!(rt; open_and_hand_in(&mut trial, 63, 1000).err(), None);
 }

@@ -1,19 +1,15 @@
 -- How a hand-in ends.
 use Rattle.std.proofs.Common.{◌≡◌, ℕ, ◌≤◌, true, false, Some, None, Ok, Err, Option, Result, sym, refl, ap, ◌∙◌, subst, arith}
 use Rattle.std.proofs.lemmas.Bool.Decides.{nat_tests}
-use Rattle.uses.specs.Relations.{Relations, UseLaws}
-use Rattle.orders.specs.Laws.{OrderLaws}
+use Rattle.uses.specs.Relations.{Relations}
 use Rattle.model.specs.State.{State, is_open, is_free, taken_out}
 use Rattle.model.specs.Recalling.{Order}
 use Rattle.model.specs.Questions.{condition, condition_asked}
 use Rattle.model.specs.Calls.{checks, refusal, acknowledged}
-use Rattle.model.specs.Invariant.{Invariant}
-use Rattle.model.specs.Runs.{Run, at}
 use Rattle.model.specs.declared.call.Call.TheVariants as call
 use Rattle.model.specs.declared.report.Report.{Report}
 use Rattle.model.specs.declared.state.Condition.{Condition}
 use Rattle.model.specs.declared.state.Condition.TheVariants.{Free, Running, Waiting, Recalled}
-use Rattle.model.proofs.Grants.{run_invariant}
 use Rattle.model.proofs.Numbers.{open_closed}
 use Rattle.book.specs.Said.{number}
 use Rattle.book.specs.Carried.{CarriedOut}
@@ -113,9 +109,3 @@ module _ (u : Relations) (s : State) (d : ℕ) (small : d ≤ 63) where
     free_after Free is never_both a h =
         let free : is_free s d ≡ true = grind (arith, nat_tests) in
         ap (λ (x : State). is_free x d) (left_by u o s (call.Close d) r t a h (Some 7) (checked Free is)) ∙ free
-
--- in a book that a run has led to, after a hand-in the number is free
-pub freed : (u : Relations) → UseLaws u → (o : Order) → OrderLaws o → (s : State) (d : ℕ) → d ≤ 63 → (r : Report) (t : State) (a : Result Answer Refusal) → CarriedOut u o s (hand_in (condition u s d) d) a r t → (run : Run) → at u o run ≡ s → is_free t d ≡ true
-freed u laws o lawful s d small r t a h run is =
-    let invariant = subst (Invariant u) is (run_invariant u laws o lawful run) in
-    free_after u s d small o r t (condition u s d) refl (invariant.well_formed.disjoint d) a h

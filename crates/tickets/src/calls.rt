@@ -1,9 +1,7 @@
 // The calls of a ticket.
 ghost use Rattle.std.specs.Prelude.{◌≡◌};
-ghost use Rattle.model.specs.Runs.{Run, at};
 ghost use Rattle.model.specs.declared.call.Call.TheVariants.{Open, Claim as ClaimCall};
-ghost use Rattle.book.specs.Carried.{CarriedOut, Clear, RunGoesOn};
-ghost use Rattle.book.specs.Held.{state};
+ghost use Rattle.book.specs.Carried.{Done, KeepsLaw};
 ghost use Rattle.tickets.specs.Answered.{booked, Names};
 
 use crate::ticket::Ticket;
@@ -23,10 +21,8 @@ impl Ticket {
         report: &mut Report,
     ) -> Result<Ticket, Refusal>
         ensures named { Names result dispatch }
-        ensures done { CarriedOut (T.UseTable.meaning book.old.table) (O.RecallOrder.meaning book.old.order) (state book.old) (Open dispatch weight) (booked result) report.new (state book.new) }
-        ensures law { (run : Run) → at (T.UseTable.meaning book.old.table) (O.RecallOrder.meaning book.old.order) run ≡ state book.old → RunGoesOn (T.UseTable.meaning book.old.table) (O.RecallOrder.meaning book.old.order) (state book.old) (Open dispatch weight) (booked result) report.new (state book.new) run }
-        ensures table { book.new.table ≡ book.old.table }
-        ensures order { book.new.order ≡ book.old.order }
+        ensures done { Done T.meaning O.meaning book.old (Open dispatch weight) (booked result) report.new book.new }
+        ensures law { KeepsLaw T.meaning O.meaning book.old (Open dispatch weight) (booked result) report.new book.new }
     {
         book.open(dispatch, weight, report)?;
         Ok(Ticket { dispatch })
@@ -47,10 +43,8 @@ impl Ticket {
         mode: u32,
         report: &mut Report,
     ) -> Result<Answer, Refusal>
-        ensures done { Clear (T.UseTable.meaning book.old.table) (state book.old) → CarriedOut (T.UseTable.meaning book.old.table) (O.RecallOrder.meaning book.old.order) (state book.old) (ClaimCall self.now.dispatch section mode) result report.new (state book.new) }
-        ensures law { (run : Run) → at (T.UseTable.meaning book.old.table) (O.RecallOrder.meaning book.old.order) run ≡ state book.old → RunGoesOn (T.UseTable.meaning book.old.table) (O.RecallOrder.meaning book.old.order) (state book.old) (ClaimCall self.now.dispatch section mode) result report.new (state book.new) run }
-        ensures table { book.new.table ≡ book.old.table }
-        ensures order { book.new.order ≡ book.old.order }
+        ensures done { Done T.meaning O.meaning book.old (ClaimCall self.now.dispatch section mode) result report.new book.new }
+        ensures law { KeepsLaw T.meaning O.meaning book.old (ClaimCall self.now.dispatch section mode) result report.new book.new }
     {
         let asked = Call::Claim {
             dispatch: self.dispatch,

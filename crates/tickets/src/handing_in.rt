@@ -1,12 +1,10 @@
 // Handing a ticket in.
 ghost use Rattle.std.specs.Prelude.{◌≡◌, true};
-ghost use Rattle.model.specs.Questions.{condition as condition_of_lem};
-ghost use Rattle.model.specs.Runs.{Run, at};
 ghost use Rattle.model.specs.State.{is_free};
-ghost use Rattle.book.specs.Carried.{CarriedOut, RunGoesOn};
+ghost use Rattle.book.specs.Carried.{Done, KeepsLaw};
 ghost use Rattle.book.specs.Held.{state};
 ghost use Rattle.tickets.specs.Answered.{booked};
-ghost use Rattle.tickets.specs.HandIn.{hand_in, ending};
+ghost use Rattle.tickets.specs.HandIn.{how_stands, hand_in, ending};
 
 use crate::ticket::{Ending, Ticket};
 use book::answers::{Answer, Refusal};
@@ -17,15 +15,14 @@ use orders::order::RecallOrder;
 use uses::table::UseTable;
 
 // Ends a dispatch by the call that fits how it stands.
+// Kept: a match, each arm one call, since closures in its place would each hold the book.
 fn end<T: UseTable, O: RecallOrder>(
     book: &mut Book<T, O>,
     dispatch: u32,
     condition: Condition,
     report: &mut Report,
 ) -> Result<Answer, Refusal>
-    ensures done { CarriedOut (T.UseTable.meaning book.old.table) (O.RecallOrder.meaning book.old.order) (state book.old) (hand_in condition dispatch) result report.new (state book.new) }
-    ensures table { book.new.table ≡ book.old.table }
-    ensures order { book.new.order ≡ book.old.order }
+    ensures { Done T.meaning O.meaning book.old (hand_in condition dispatch) result report.new book.new }
 {
     match condition {
         Condition::Running => book.close(dispatch, report),
@@ -56,12 +53,10 @@ impl Ticket {
         book: &mut Book<T, O>,
         report: &mut Report,
     ) -> Result<Ending, Refusal>
-        ensures ended { result ≡ ending (condition_of_lem (T.UseTable.meaning book.old.table) (state book.old) self.dispatch) }
-        ensures done { CarriedOut (T.UseTable.meaning book.old.table) (O.RecallOrder.meaning book.old.order) (state book.old) (hand_in (condition_of_lem (T.UseTable.meaning book.old.table) (state book.old) self.dispatch) self.dispatch) (booked result) report.new (state book.new) }
-        ensures law { (run : Run) → at (T.UseTable.meaning book.old.table) (O.RecallOrder.meaning book.old.order) run ≡ state book.old → RunGoesOn (T.UseTable.meaning book.old.table) (O.RecallOrder.meaning book.old.order) (state book.old) (hand_in (condition_of_lem (T.UseTable.meaning book.old.table) (state book.old) self.dispatch) self.dispatch) (booked result) report.new (state book.new) run }
-        ensures freed { (run : Run) → at (T.UseTable.meaning book.old.table) (O.RecallOrder.meaning book.old.order) run ≡ state book.old → is_free (state book.new) self.dispatch ≡ true }
-        ensures table { book.new.table ≡ book.old.table }
-        ensures order { book.new.order ≡ book.old.order }
+        ensures ended { result ≡ ending (how_stands T.meaning book.old self.dispatch) }
+        ensures done { Done T.meaning O.meaning book.old (hand_in (how_stands T.meaning book.old self.dispatch) self.dispatch) (booked result) report.new book.new }
+        ensures law { KeepsLaw T.meaning O.meaning book.old (hand_in (how_stands T.meaning book.old self.dispatch) self.dispatch) (booked result) report.new book.new }
+        ensures freed { is_free (state book.new.tables) self.dispatch ≡ true }
     {
         let Ticket { dispatch } = self;
         let condition = book.condition(dispatch)?.condition;

@@ -1,5 +1,7 @@
 // What a ticket is, and how it ends.
-ghost use Rattle.std.specs.Prelude.{◌≤◌};
+ghost use Rattle.std.specs.Prelude.{◌≤◌, Some};
+
+use std::fmt;
 
 // A ticket (a transaction handle, and a linear value: it cannot be copied or let go). It comes from
 // an accepted opening alone, and is spent by handing it in alone.
@@ -18,4 +20,18 @@ pub enum Ending {
     Withdrawn,
     // it was recalled, and that has been noted
     Acknowledged,
+}
+
+impl fmt::Display for Ending {
+    ghost use Rattle.tickets.specs.Endings.{ending_words};
+
+    ghost output = { λ ending. Some (ending_words ending) };
+
+    fn fmt<W: fmt::Write>(&self, f: &mut fmt::Formatter<W>) -> fmt::Result {
+        f.write_str(match self {
+            Ending::Closed => "closed",
+            Ending::Withdrawn => "withdrawn, since it waited",
+            Ending::Acknowledged => "its recall acknowledged",
+        })
+    }
 }

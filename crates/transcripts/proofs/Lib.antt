@@ -1,5 +1,4 @@
 pub mod Cutting
-pub mod Reaching
 pub mod Kept
 pub mod Naming
 pub mod Responding

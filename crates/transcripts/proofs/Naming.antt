@@ -1,8 +1,8 @@
 -- A filled report names the recalled and the woken that it was filled with.
 use Rattle.std.proofs.Common.{◌≡◌, ℕ, ◌+◌, ◌-◌, ◌≤◌, List, [], ◌∷◌, ◌++◌, map, length, take, drop, replicate, refl, ap, ◌∙◌, append_assoc, arith}
 use Rattle.std.proofs.lemmas.List.{length-map, map-append, take-take, take_at, drop_at, drop-take}
-use Rattle.model.specs.Recalling.{Named}
 use Rattle.model.specs.Calls.{places, filled}
+use Rattle.model.specs.declared.report.Named.{Named}
 use Rattle.lines.specs.Words.{names, named_recalled, named_woken}
 
 -- numbers and sections of a list, beside each other again

@@ -2,11 +2,12 @@
 use Rattle.std.proofs.Common.{◌≡◌, ℕ, suc, ◌≤◌, List, [], ◌++◌, Ok, Err, Result, refl, ap, ◌∙◌, subst, arith}
 use Rattle.uses.specs.Relations.{Relations}
 use Rattle.model.specs.State.{State}
-use Rattle.model.specs.Recalling.{Order, Named}
+use Rattle.model.specs.Recalling.{Order}
 use Rattle.model.specs.Calls.{step}
 use Rattle.model.specs.declared.call.Call.{Call}
+use Rattle.model.specs.declared.report.Named.{Named}
 use Rattle.model.specs.declared.state.Detection.{Detection}
-use Rattle.lines.specs.Faults.{line_fault}
+use Rattle.lines.specs.Faults.{fault_number, fault_place}
 use Rattle.lines.specs.Reading.{Reading}
 use Rattle.lines.specs.Words.{Reply, answer, fault, printed}
 use Rattle.lines.specs.declared.fault.Fault.{Fault}
@@ -23,26 +24,25 @@ ReadsOnce = (line : List ℕ) (r s : Result Call Fault) → Reading line r → R
 -- a number that gives something is at most 1000000
 gives_in_time : (u : Relations) (o : Order) (n : ℕ) (s : State) (line : List ℕ) (p : Reply) (xs ys : List Named) (t : State) → Gives u o n s line p xs ys t → n ≤ 1000000
 gives_in_time u o n s line _ _ _ _ (too_many is) = omega (arith, is)
-gives_in_time u o n s line _ _ _ _ (faulty below k c _) = omega (arith, below)
+gives_in_time u o n s line _ _ _ _ (faulty below _ _) = omega (arith, below)
 gives_in_time u o n s line _ _ _ _ (carried below c _) = omega (arith, below)
 
 -- what a line gives is printed in one way, and leaves one state
 gives_once : (once : ReadsOnce) (u : Relations) (o : Order) (n : ℕ) (s : State) (line : List ℕ) (p q : Reply) (xs ys vs ws : List Named) (t r : State) → Gives u o n s line p xs ys t → Gives u o n s line q vs ws r → (printed n p xs ys ≡ printed n q vs ws) × (t ≡ r)
 gives_once once u o n s line _ _ _ _ _ _ _ _ (too_many is) (too_many _) = (refl, refl)
-gives_once once u o n s line _ _ _ _ _ _ _ _ (too_many is) (faulty below k c _) = absurd (omega (arith, is, below))
+gives_once once u o n s line _ _ _ _ _ _ _ _ (too_many is) (faulty below _ _) = absurd (omega (arith, is, below))
 gives_once once u o n s line _ _ _ _ _ _ _ _ (too_many is) (carried below c _) = absurd (omega (arith, is, below))
-gives_once once u o n s line _ _ _ _ _ _ _ _ (faulty below k c _) (too_many is) = absurd (omega (arith, is, below))
-gives_once once u o n s line _ _ _ _ _ _ _ _ (faulty _ k c a) (faulty _ l d b) =
-    let e : ◌≡◌ {A = Result Call Fault} (Err (line_fault k c)) (Err (line_fault l d)) = once line (Err (line_fault k c)) (Err (line_fault l d)) a b in
-    let same_kind : k ≡ l = grind (arith, e) in
-    let same_place : c ≡ d = grind (arith, e) in
-    (ap (λ (x : ℕ). printed n (fault x c) [] []) same_kind ∙ ap (λ (x : ℕ). printed n (fault l x) [] []) same_place, refl)
-gives_once once u o n s line _ _ _ _ _ _ _ _ (faulty _ k c a) (carried _ d b) =
-    let e : ◌≡◌ {A = Result Call Fault} (Err (line_fault k c)) (Ok d) = once line (Err (line_fault k c)) (Ok d) a b in
+gives_once once u o n s line _ _ _ _ _ _ _ _ (faulty below _ _) (too_many is) = absurd (omega (arith, is, below))
+gives_once once u o n s line _ _ _ _ _ _ _ _ (faulty _ f a) (faulty _ g b) =
+    let e : ◌≡◌ {A = Result Call Fault} (Err f) (Err g) = once line (Err f) (Err g) a b in
+    let same : f ≡ g = grind (arith, e) in
+    (ap (λ (x : Fault). printed n (fault (fault_number x) (fault_place x)) [] []) same, refl)
+gives_once once u o n s line _ _ _ _ _ _ _ _ (faulty _ f a) (carried _ d b) =
+    let e : ◌≡◌ {A = Result Call Fault} (Err f) (Ok d) = once line (Err f) (Ok d) a b in
     absurd (grind (arith, e))
 gives_once once u o n s line _ _ _ _ _ _ _ _ (carried below c _) (too_many is) = absurd (omega (arith, is, below))
-gives_once once u o n s line _ _ _ _ _ _ _ _ (carried _ c a) (faulty _ k d b) =
-    let e : ◌≡◌ {A = Result Call Fault} (Err (line_fault k d)) (Ok c) = once line (Err (line_fault k d)) (Ok c) b a in
+gives_once once u o n s line _ _ _ _ _ _ _ _ (carried _ c a) (faulty _ f b) =
+    let e : ◌≡◌ {A = Result Call Fault} (Err f) (Ok c) = once line (Err f) (Ok c) b a in
     absurd (grind (arith, e))
 gives_once once u o n s line _ _ _ _ _ _ _ _ (carried _ c a) (carried _ d b) =
     let e : ◌≡◌ {A = Result Call Fault} (Ok c) (Ok d) = once line (Ok c) (Ok d) a b in

@@ -1,45 +1,43 @@
 -- What a line gives, by the ways that its reading and its call can go.
 use Rattle.std.proofs.Common.{◌≡◌, ℕ, ◌+◌, ◌<◌, ◌≤◌, List, [], length, Ok, Err, Result, sym, refl, ap, ◌∙◌, subst, arith}
-use Rattle.uses.specs.Relations.{Relations, UseLaws}
+use Rattle.uses.specs.Relations.{Relations}
 use Rattle.orders.specs.Laws.{OrderLaws}
 use Rattle.model.specs.State.{State}
 use Rattle.model.specs.Recalling.{Order}
 use Rattle.model.specs.Calls.{step, filled}
 use Rattle.model.specs.Invariant.{Invariant}
-use Rattle.model.specs.Runs.{Run, at}
 use Rattle.model.specs.declared.call.Call.{Call}
 use Rattle.model.specs.declared.report.Report.{Report}
-use Rattle.book.specs.Carried.{CarriedOut, RunGoesOn}
+use Rattle.book.specs.Carried.{CarriedOut}
 use Rattle.book.specs.Said.{said}
 use Rattle.book.specs.declared.answers.Answer.{Answer}
 use Rattle.book.specs.declared.answers.Refusal.{Refusal}
 use Rattle.book.specs.declared.answers.Refusal.TheVariants.{NumberTooHigh, SectionTooHigh, NotKnown, WeightTooHigh, IsRecalled, IsOpen, IsFree, IsWaiting, NoRoom, NotRecalled}
-use Rattle.lines.specs.Faults.{line_fault, of_refusal}
 use Rattle.lines.specs.Reading.{Reading, too_long, no_letter, wrong_form}
 use Rattle.lines.specs.Words.{Reply, answer, reply}
 use Rattle.lines.specs.declared.fault.Fault.{Fault}
+use Rattle.lines.specs.declared.fault.Fault.TheVariants.{TooManyLines, TooLong, NoLetter, WrongForm, Refused}
 use Rattle.transcripts.specs.Transcript.{Gives, too_many, faulty, carried}
 use Rattle.model.proofs.Exact.{report_fits}
-use Rattle.model.proofs.Grants.{run_invariant}
-use Rattle.transcripts.specs.Responses.{Reached, Responded}
+use Rattle.transcripts.specs.Responses.{Responded}
 
 -- fault 44
-pub last_responded : (u : Relations) (o : Order) (number : ℕ) (s : State) (line : List ℕ) (r : Report) → number ≡ 1000000 → r ≡ filled [] [] → Responded u o number s line (Err (line_fault 44 1)) r s
+pub last_responded : (u : Relations) (o : Order) (number : ℕ) (s : State) (line : List ℕ) (r : Report) → number ≡ 1000000 → r ≡ filled [] [] → Responded u o number s line (Err TooManyLines) r s
 last_responded u o number s line r last none = record { recalls = []; wakes = []; reported = none; fits = omega arith; gives = too_many last }
 
 -- another fault of the line
 pub fault_responded : (u : Relations) (o : Order) (number : ℕ) (s : State) (line : List ℕ) (f : Fault) (r : Report) → number < 1000000 → Reading line (Err f) → r ≡ filled [] [] → Responded u o number s line (Err f) r s
 fault_responded u o number s line _ r below (too_long many) none =
-    record { recalls = []; wakes = []; reported = none; fits = omega arith; gives = faulty below 41 33 (too_long many) }
+    record { recalls = []; wakes = []; reported = none; fits = omega arith; gives = faulty below TooLong (too_long many) }
 fault_responded u o number s line _ r below (no_letter few h) none =
-    record { recalls = []; wakes = []; reported = none; fits = omega arith; gives = faulty below 42 1 (no_letter few h) }
+    record { recalls = []; wakes = []; reported = none; fits = omega arith; gives = faulty below NoLetter (no_letter few h) }
 fault_responded u o number s line _ r below (wrong_form few h place wrong) none =
-    record { recalls = []; wakes = []; reported = none; fits = omega arith; gives = faulty below 43 place (wrong_form few h place wrong) }
+    record { recalls = []; wakes = []; reported = none; fits = omega arith; gives = faulty below (WrongForm place) (wrong_form few h place wrong) }
 
 -- the book's answer or refusal, as it passes up
 abbrev pub passed_up : Result Answer Refusal → Result Answer Fault
 passed_up (Ok a) = Ok a
-passed_up (Err e) = Err (of_refusal e)
+passed_up (Err e) = Err (Refused e)
 
 -- it is the reply that the book's answer is
 reply_passed_up : (a : Result Answer Refusal) → reply (passed_up a) ≡ answer (said a)
@@ -69,8 +67,6 @@ call_responded u o number s line c a r t below reads done fits = record {
     same : reply (passed_up a) ≡ answer (step u o s c).answer
     same = reply_passed_up a ∙ ap answer done.answered
 
--- the book's promise for every run that leads to the state is one for the state itself
-pub run_responded : (u : Relations) → UseLaws u → (o : Order) → OrderLaws o → (number : ℕ) (s : State) (line : List ℕ) (c : Call) (a : Result Answer Refusal) (r : Report) (t : State) → number < 1000000 → Reading line (Ok c) → ((run : Run) → at u o run ≡ s → RunGoesOn u o s c a r t run) → Reached u o s → Responded u o number s line (passed_up a) r t
-run_responded u laws o lawful number s line c a r t below reads law (run, leads) =
-    call_responded u o number s line c a r t below reads (law run leads).carried
-    (report_fits u o lawful s (subst (λ (x : State). Invariant u x) leads (run_invariant u laws o lawful run)) c)
+-- the call was carried out in a state of a book
+pub carried_responded : (u : Relations) (o : Order) → OrderLaws o → (number : ℕ) (s : State) → Invariant u s → (line : List ℕ) (c : Call) (a : Result Answer Refusal) (r : Report) (t : State) → number < 1000000 → Reading line (Ok c) → CarriedOut u o s c a r t → Responded u o number s line (passed_up a) r t
+carried_responded u o lawful number s i line c a r t below reads done = call_responded u o number s line c a r t below reads done (report_fits u o lawful s i c)

@@ -2,18 +2,14 @@
 use Rattle.std.specs.Prelude.{◌≡◌, ℕ, ◌+◌, ◌≤◌, List, length, Result}
 use Rattle.uses.specs.Relations.{Relations}
 use Rattle.model.specs.State.{State}
-use Rattle.model.specs.Recalling.{Order, Named}
+use Rattle.model.specs.Recalling.{Order}
 use Rattle.model.specs.Calls.{filled}
-use Rattle.model.specs.Runs.{Run, at}
+use Rattle.model.specs.declared.report.Named.{Named}
 use Rattle.model.specs.declared.report.Report.{Report}
 use Rattle.book.specs.declared.answers.Answer.{Answer}
 use Rattle.lines.specs.Words.{reply}
 use Rattle.lines.specs.declared.fault.Fault.{Fault}
 use Rattle.transcripts.specs.Transcript.{Gives}
-
--- some run leads to the state
-abbrev pub Reached : Relations → Order → State → Type 0
-Reached u o s = (r : Run) × (at u o r ≡ s)
 
 -- the outcome, the whole report and the state left are what the line of the number gives
 pub record Responded (u : Relations) (o : Order) (number : ℕ) (s : State) (line : List ℕ) (outcome : Result Answer Fault) (r : Report) (t : State) : Type 0 where

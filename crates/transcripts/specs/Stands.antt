@@ -1,23 +1,39 @@
 -- Where a console stands once an input, or a part of one, has been read. `u` is the meaning of the use table, `o` that of the recall order.
-use Rattle.std.specs.Prelude.{◌≡◌, ℕ, cond, List, take, nat_lt}
-use Rattle.lists.specs.Entries.{entries}
+use Rattle.std.specs.Prelude.{◌≡◌, ℕ, cond, List, [], ◌++◌, take, nat_lt}
 use Rattle.uses.specs.Relations.{Relations}
 use Rattle.model.specs.Recalling.{Order}
 use Rattle.model.specs.declared.state.Detection.{Detection}
 use Rattle.book.specs.Held.{state}
-use Rattle.transcripts.specs.Inputs.{Lines, count, Cut}
-use Rattle.transcripts.specs.Transcript.{Answered}
+use Rattle.transcripts.specs.Inputs.{Lines, more, count, Cut}
+use Rattle.transcripts.specs.Transcript.{Answered, Transcript}
 use Rattle.transcripts.specs.declared.console.Console.{Console}
 
 -- the console has answered the ended lines by the text, and keeps 33 bytes at most of the line that has begun
-pub record HasAnswered {T O : Type 0} (u : Relations) (o : Order) (detection : Detection) (ended : Lines) (rest text : List ℕ) (c : Console T O) : Type 0 where
-  pub answered : Answered u o detection ended text (state c.book)
+pub record HasAnswered {T O : Type 0} {tm : _} (u : Relations) (o : Order) (detection : Detection) (ended : Lines) (rest text : List ℕ) (c : Console T O tm) : Type 0 where
+  pub answered : Answered u o detection ended text (state c.book.tables)
   pub counted : c.answered ≡ cond (nat_lt (count ended) 1000000) (count ended) 1000000
-  pub kept : entries c.line ≡ take 33 rest
+  pub kept : c.line ≡ take 33 rest
 
 -- the console has read the input, however it was cut into pieces, and the text is what was printed so far
-pub record HasRead {T O : Type 0} (u : Relations) (o : Order) (detection : Detection) (input text : List ℕ) (c : Console T O) : Type 0 where
+pub record HasRead {T O : Type 0} {tm : _} (u : Relations) (o : Order) (detection : Detection) (input text : List ℕ) (c : Console T O tm) : Type 0 where
   pub ended : Lines
   pub rest : List ℕ
   pub cut : Cut input ended rest
   pub stands : HasAnswered u o detection ended rest text c
+
+-- below, `u` and `o` give the meaning of each table and of each order; those of the console stand at its table and its order
+
+-- the line that has begun was answered by the text, and the next begins
+abbrev pub AnswersLine : {T O : Type 0} {tm : _} → (T → Relations) → (O → Order) → Console T O tm → Console T O tm → List ℕ → Type 0
+AnswersLine u o before after text =
+    (detection : Detection) (ended : Lines) (rest printed : List ℕ) → HasAnswered (u before.book.policy.table) (o before.book.policy.order) detection ended rest printed before → HasAnswered (u before.book.policy.table) (o before.book.policy.order) detection (more ended rest) [] (printed ++ text) after
+
+-- the console has read the bytes too, and printed the text for them
+abbrev pub Reads : {T O : Type 0} {tm : _} → (T → Relations) → (O → Order) → Console T O tm → Console T O tm → List ℕ → List ℕ → Type 0
+Reads u o before after bytes text =
+    (detection : Detection) (input printed : List ℕ) → HasRead (u before.book.policy.table) (o before.book.policy.order) detection input printed before → HasRead (u before.book.policy.table) (o before.book.policy.order) detection (input ++ bytes) (printed ++ text) after
+
+-- with the text, what the console has printed is the transcript of what it has read
+abbrev pub Finishes : {T O : Type 0} {tm : _} → (T → Relations) → (O → Order) → Console T O tm → List ℕ → Type 0
+Finishes u o console text =
+    (detection : Detection) (input printed : List ℕ) → HasRead (u console.book.policy.table) (o console.book.policy.order) detection input printed console → Transcript (u console.book.policy.table) (o console.book.policy.order) detection input (printed ++ text)

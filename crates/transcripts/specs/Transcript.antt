@@ -2,13 +2,15 @@
 use Rattle.std.specs.Prelude.{◌≡◌, ℕ, suc, ◌<◌, List, [], ◌++◌, Ok, Err}
 use Rattle.uses.specs.Relations.{Relations}
 use Rattle.model.specs.State.{State, new}
-use Rattle.model.specs.Recalling.{Order, Named}
+use Rattle.model.specs.Recalling.{Order}
 use Rattle.model.specs.Calls.{step}
 use Rattle.model.specs.declared.call.Call.{Call}
+use Rattle.model.specs.declared.report.Named.{Named}
 use Rattle.model.specs.declared.state.Detection.{Detection}
-use Rattle.lines.specs.Faults.{line_fault}
+use Rattle.lines.specs.Faults.{fault_number, fault_place}
 use Rattle.lines.specs.Reading.{Reading}
 use Rattle.lines.specs.Words.{Reply, answer, fault, printed}
+use Rattle.lines.specs.declared.fault.Fault.{Fault}
 use Rattle.transcripts.specs.Inputs.{Lines, none, more, count, Cut, with_rest}
 
 -- what the line of a number gives in a state: the reply, the recalled, the woken, and the state left
@@ -16,7 +18,7 @@ pub data Gives (u : Relations) (o : Order) (number : ℕ) (s : State) (line : Li
   -- 44: the line is number 1000000, whatever is in it
   too_many : number ≡ 1000000 → Gives u o number s line (fault 44 1) [] [] s
   -- a line with another fault leaves the state alone too
-  faulty : number < 1000000 → (kind place : ℕ) → Reading line (Err (line_fault kind place)) → Gives u o number s line (fault kind place) [] [] s
+  faulty : number < 1000000 → (f : Fault) → Reading line (Err f) → Gives u o number s line (fault (fault_number f) (fault_place f)) [] [] s
   -- a correct line is carried out as the model says
   carried : number < 1000000 → (c : Call) → Reading line (Ok c) → Gives u o number s line (answer (step u o s c).answer) (step u o s c).recalls (step u o s c).wakes (step u o s c).state
 

@@ -1,12 +1,9 @@
 // Answering a line.
-ghost use Rattle.std.specs.Prelude.{◌≡◌, ℕ, ◌≤◌, List, [], ◌++◌};
+ghost use Rattle.std.specs.Prelude.{◌≡◌, ◌≤◌, []};
 ghost use Rattle.model.specs.Calls.{filled};
 ghost use Rattle.book.specs.Held.{state};
-ghost use Rattle.model.specs.declared.state.Detection.{Detection};
-ghost use Rattle.printed.specs.Text.{text};
-ghost use Rattle.transcripts.specs.Inputs.{Lines, more};
-ghost use Rattle.transcripts.specs.Responses.{Reached, Responded};
-ghost use Rattle.transcripts.specs.Stands.{HasAnswered};
+ghost use Rattle.transcripts.specs.Responses.{Responded};
+ghost use Rattle.transcripts.specs.Stands.{AnswersLine};
 
 use crate::console::Console;
 use book::answers::Answer;
@@ -14,7 +11,7 @@ use book::book::Book;
 use lines::fault::Fault;
 use lines::form::read_call;
 use lines::outcome::print_outcome;
-use lists::fixed_list::FixedList;
+use lists::FixedList;
 use model::report::Report;
 use orders::order::RecallOrder;
 use printed::place::Printed;
@@ -31,12 +28,11 @@ fn respond<T: UseTable, O: RecallOrder>(
     report: &mut Report,
 ) -> Result<Answer, Fault>
     requires { (number ≤ 1000000) × (report.old ≡ filled [] []) }
-    ensures done { Reached (T.UseTable.meaning book.old.table) (O.RecallOrder.meaning book.old.order) (state book.old) → Responded (T.UseTable.meaning book.old.table) (O.RecallOrder.meaning book.old.order) number (state book.old) line.now result report.new (state book.new) }
-    ensures table { book.new.table ≡ book.old.table }
-    ensures order { book.new.order ≡ book.old.order }
+    ensures done { Responded (T.meaning book.old.policy.table) (O.meaning book.old.policy.order) number (state book.old.tables) line.now result report.new (state book.new.tables) }
+    ensures policy { book.new.policy ≡ book.old.policy }
 {
     if number == LAST {
-        return Err(Fault::too_many_lines());
+        return Err(Fault::TooManyLines);
     }
     let call = read_call(line)?;
     let answer = book.carry_out(call, report)?;
@@ -47,9 +43,8 @@ impl<T: UseTable, O: RecallOrder> Console<T, O> {
     // Answers the line that has come to its end, and begins the next. After line 1000000 nothing is
     // printed.
     pub(crate) fn answer_line(&mut self, printed: &mut Printed)
-        ensures done { (detection : Detection) (ended : Lines) (rest before : List ℕ) → HasAnswered (T.UseTable.meaning self.old.book.table) (O.RecallOrder.meaning self.old.book.order) detection ended rest before self.old → HasAnswered (T.UseTable.meaning self.old.book.table) (O.RecallOrder.meaning self.old.book.order) detection (more ended rest) [] (before ++ text printed.new) self.new }
-        ensures table { self.new.book.table ≡ self.old.book.table }
-        ensures order { self.new.book.order ≡ self.old.book.order }
+        ensures done { AnswersLine T.meaning O.meaning self.old self.new printed.new }
+        ensures policy { self.new.book.policy ≡ self.old.book.policy }
     {
         if self.answered == LAST {
             printed.clear();

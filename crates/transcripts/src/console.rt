@@ -2,11 +2,14 @@
 ghost use Rattle.std.specs.Prelude.{◌≤◌};
 
 use book::book::Book;
-use lists::fixed_list::FixedList;
+use lists::FixedList;
+use uses::table::UseTable;
 
 // A console (a session over one input): a book, and the line that has begun.
 #[derive(Drop)]
-pub struct Console<T, O> {
+pub struct Console<T: UseTable, O> {
+    // Kept: that its policy stays is a clause of its own at each call, one equation, so that
+    // `Reads` and its like speak of nothing but what is read and printed
     pub(crate) book: Book<T, O>,
     // how many lines were answered
     pub(crate) answered: u32,

@@ -17,13 +17,13 @@ pub fn transcript<T: UseTable + Drop, O: RecallOrder + Drop>(
     order: O,
     detection: Detection,
     pieces: &[&[u8]],
-    heap: Global,
+    alloc: Global,
 ) -> Result<Vec<u8>, AllocError>
-    ensures { IfOk result (λ v. Transcript (T.UseTable.meaning table) (O.RecallOrder.meaning order) detection (all_bytes (map (λ p. p.now) pieces.now)) v.items) }
+    ensures { IfOk result (λ v. Transcript (T.meaning table) (O.meaning order) detection (all_bytes (map (λ p. p.now) pieces.now)) v.items) }
 {
     let mut console = Console::new(table, order, detection);
     let mut printed = Printed::new();
-    let mut out = Vec::new(heap);
+    let mut out = Vec::new(alloc);
     for piece in pieces {
         console.take_all(piece, &mut printed, &mut out)?;
     }

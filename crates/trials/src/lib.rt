@@ -12,3 +12,5 @@ mod room;
 #[cfg(test)]
 mod sessions;
 pub mod setting;
+#[cfg(test)]
+mod trial;

@@ -1,24 +1,20 @@
 // The three questions, on a small book.
-use crate::setting::{new_book, open_all};
+use crate::trial::Trial;
 use book::answers::{Answer, Refusal};
-use book::book::Book;
 use book::questions::Standing;
 use marks::Marks;
-use model::report::Report;
 use model::state::{Condition, Detection};
-use orders::single::Newest;
 use std::process::Abort;
-use uses::two_uses::{LOOK, MOVE, TwoUses};
+use uses::two_uses::{LOOK, MOVE};
 
 // Dispatches 1 and 2 look at section 10, dispatch 0 waits to move there; dispatch 3 is free.
-fn small_book(rt: &impl Abort) -> Book<TwoUses, Newest> {
-    let mut book = new_book(Detection::Continuous);
-    let mut report = Report::empty();
-    assert_eq!(rt; open_all(&mut book, 3, &mut report), Ok(Answer::Ok));
-    assert_eq!(rt; book.claim(1, 10, LOOK, &mut report), Ok(Answer::Granted));
-    assert_eq!(rt; book.claim(2, 10, LOOK, &mut report), Ok(Answer::Granted));
-    assert_eq!(rt; book.claim(0, 10, MOVE, &mut report), Ok(Answer::Waits));
-    book
+fn small_book(rt: &impl Abort) -> Trial {
+    let mut trial = Trial::new(Detection::Continuous);
+    assert_eq!(rt; trial.open_all(3), Ok(Answer::Ok));
+    assert_eq!(rt; trial.claim(1, 10, LOOK), Ok(Answer::Granted));
+    assert_eq!(rt; trial.claim(2, 10, LOOK), Ok(Answer::Granted));
+    assert_eq!(rt; trial.claim(0, 10, MOVE), Ok(Answer::Waits));
+    trial
 }
 
 // Dispatches 1 and 2.
@@ -31,7 +27,7 @@ fn one_and_two() -> Marks {
 
 #[test]
 fn how_does_a_dispatch_stand(rt: HostRuntime) {
-    let book = small_book(&rt);
+    let Trial { book, .. } = small_book(&rt);
     let waiting = Standing {
         condition: Condition::Waiting,
         waits_for: Some(10),
@@ -52,7 +48,7 @@ fn how_does_a_dispatch_stand(rt: HostRuntime) {
 
 #[test]
 fn for_whom_does_a_dispatch_wait(rt: HostRuntime) {
-    let book = small_book(&rt);
+    let Trial { book, .. } = small_book(&rt);
     let mut marks = Marks::none();
     assert_eq!(rt; book.waited_for(1, &mut marks), Ok(()));
     assert_eq!(rt; marks, Marks::none());
@@ -67,7 +63,7 @@ fn for_whom_does_a_dispatch_wait(rt: HostRuntime) {
 
 #[test]
 fn who_holds_a_section(rt: HostRuntime) {
-    let book = small_book(&rt);
+    let Trial { book, .. } = small_book(&rt);
     let mut marks = Marks::none();
     assert_eq!(rt; book.holders(11, &mut marks), Ok(()));
     assert_eq!(rt; marks, Marks::none());

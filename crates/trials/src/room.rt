@@ -1,56 +1,42 @@
 // A book with all its claims.
-use crate::setting::{new_book, open_all};
+use crate::trial::Trial;
 use book::answers::{Answer, Refusal};
-use book::book::Book;
-use model::report::Report;
 use model::state::Detection;
-use orders::single::Newest;
+use std::ops::Range;
 use std::process::Abort;
-use uses::two_uses::{LOOK, MOVE, TwoUses};
+use uses::two_uses::{LOOK, MOVE};
 
-// The dispatch moves on the eight sections from `first` on.
-fn claim_eight(
-    rt: &impl Abort,
-    book: &mut Book<TwoUses, Newest>,
-    dispatch: u32,
-    first: u32,
-    report: &mut Report,
-) {
-    for k in 0..8 {
-        let section = first.wrapping_add(k);
-        assert_eq!(rt;
-            book.claim(dispatch, section, MOVE, report),
-            Ok(Answer::Granted)
-        );
+// The dispatch moves on each of the sections.
+fn claim_each(rt: &impl Abort, trial: &mut Trial, dispatch: u32, sections: Range<u32>) {
+    for section in sections {
+        assert_eq!(rt; trial.claim(dispatch, section, MOVE), Ok(Answer::Granted));
     }
 }
 
-// All 64 dispatches move on eight sections each: 512 claims.
-fn fill(rt: &impl Abort, book: &mut Book<TwoUses, Newest>, report: &mut Report) {
-    assert_eq!(rt; open_all(book, 64, report), Ok(Answer::Ok));
-    for dispatch in 0..64u32 {
-        claim_eight(rt, book, dispatch, dispatch * 8, report);
+// A book whose 64 dispatches move on eight sections each: 512 claims.
+fn full_book(rt: &impl Abort) -> Trial {
+    let mut trial = Trial::new(Detection::Continuous);
+    assert_eq!(rt; trial.open_all(64), Ok(Answer::Ok));
+    for dispatch in 0..64 {
+        claim_each(rt, &mut trial, dispatch, dispatch * 8..dispatch * 8 + 8);
     }
+    trial
 }
 
 #[test]
 fn the_513th_claim_is_refused(rt: HostRuntime) {
-    let mut book = new_book(Detection::Continuous);
-    let mut report = Report::empty();
-    fill(&rt, &mut book, &mut report);
+    let mut trial = full_book(&rt);
     // free, held by another, and covered
-    assert_eq!(rt; book.claim(0, 600, LOOK, &mut report), Err(Refusal::NoRoom));
-    assert_eq!(rt; book.claim(0, 8, LOOK, &mut report), Err(Refusal::NoRoom));
-    assert_eq!(rt; book.claim(0, 7, LOOK, &mut report), Ok(Answer::Covered));
+    assert_eq!(rt; trial.claim(0, 600, LOOK), Err(Refusal::NoRoom));
+    assert_eq!(rt; trial.claim(0, 8, LOOK), Err(Refusal::NoRoom));
+    assert_eq!(rt; trial.claim(0, 7, LOOK), Ok(Answer::Covered));
 }
 
 #[test]
 fn a_close_makes_room_for_its_eight(rt: HostRuntime) {
-    let mut book = new_book(Detection::Continuous);
-    let mut report = Report::empty();
-    fill(&rt, &mut book, &mut report);
-    assert_eq!(rt; book.close(63, &mut report), Ok(Answer::Ok));
-    claim_eight(&rt, &mut book, 0, 504, &mut report);
-    assert_eq!(rt; book.claim(0, 600, MOVE, &mut report), Err(Refusal::NoRoom));
-    assert_eq!(rt; book.claim(0, 511, MOVE, &mut report), Ok(Answer::Covered));
+    let mut trial = full_book(&rt);
+    assert_eq!(rt; trial.close(63), Ok(Answer::Ok));
+    claim_each(&rt, &mut trial, 0, 504..512);
+    assert_eq!(rt; trial.claim(0, 600, MOVE), Err(Refusal::NoRoom));
+    assert_eq!(rt; trial.claim(0, 511, MOVE), Ok(Answer::Covered));
 }

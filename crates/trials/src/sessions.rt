@@ -2,7 +2,9 @@
 use model::state::Detection;
 use orders::single::Newest;
 use printed::place::Printed;
+use std::alloc::{AllocError, Global};
 use std::process::Abort;
+use std::test::Fail;
 use transcripts::console::Console;
 use uses::two_uses::TwoUses;
 
@@ -24,26 +26,28 @@ fn check_line(
 }
 
 // Dispatch 1 looks on the sections from 0 on: 512 claims.
-fn claim_all(rt: &impl Abort, console: &mut Console<TwoUses, Newest>) {
+fn claim_all(
+    rt: &impl Abort,
+    alloc: Global,
+    console: &mut Console<TwoUses, Newest>,
+) -> Result<(), AllocError> {
     let mut printed = Printed::new();
-    let mut line = Printed::new();
     for section in 0..512 {
-        line.clear();
-        line.put_all(b"C 1 ");
-        line.put_number(section);
-        line.put_all(b" 0\n");
-        console.take(line.text(), &mut printed);
+        let line = format!(in alloc; "C 1 {section} 0\n")?;
+        console.take(line.as_bytes(), &mut printed);
     }
     assert_eq!(rt; printed.text(), b"513 granted\n".as_slice());
+    Ok(())
 }
 
 #[test]
-fn the_513th_claim_is_refused_at_the_console(rt: HostRuntime) {
+fn the_513th_claim_is_refused_at_the_console(rt: HostRuntime) -> Result<(), Fail> {
     let mut console = new_console();
     check_line(&rt, &mut console, b"O 1 5\n", b"1 ok\n");
-    claim_all(&rt, &mut console);
+    claim_all(&rt, rt.alloc(), &mut console)?;
     check_line(&rt, &mut console, b"C 1 600 0\n", b"514 refused 9\n");
     check_line(&rt, &mut console, b"C 1 511 0\n", b"515 covered\n");
+    Ok(())
 }
 
 #[test]

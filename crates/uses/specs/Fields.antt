@@ -32,13 +32,12 @@ share_more s t u all h =
     (sharing u s).1 (shared.0, shared.1, grind (arith, nat_tests, shared.2, (having s t).0 all shared.0 shared.1))
 
 -- two spans share a field exactly when they share the later of their first fields
-pub share_later : (s t : Span) → s.to ≤ 255 → (later : ℕ) → later ≡ max s.from t.from → (takes s later && takes t later) ≡ share_a_field s t
-share_later s t ends later is =
-    same_from_decides _ _ ((λ h. (later, grind (arith, nat_tests), h)), λ k. grind (arith, nat_tests)) (sharing s t)
+pub share_later : (s t : Span) → s.to ≤ 255 → share_a_field s t ≡ (takes s (max s.from t.from) && takes t (max s.from t.from))
+share_later s t ends =
+    same_from_decides _ _ (sharing s t) ((λ h. (max s.from t.from, grind (arith, nat_tests), h)), λ k. grind (arith, nat_tests))
 
 -- a span has all fields of one that is not empty exactly when it has its first and its last
-pub has_first_and_last : (s t : Span) → t.to ≤ 255 → t.from < t.to → (takes s t.from && takes s (t.to - 1)) ≡ has_all_fields_of s t
+pub has_first_and_last : (s t : Span) → t.to ≤ 255 → t.from < t.to → has_all_fields_of s t ≡ (takes s t.from && takes s (t.to - 1))
 has_first_and_last s t ends some =
-    same_from_decides _ _
+    same_from_decides _ _ (having s t)
     ((λ h k below. grind (arith, nat_tests)), λ each. grind (arith, nat_tests, each t.from (omega arith), each (t.to - 1) (omega arith)))
-    (having s t)

@@ -1,6 +1,8 @@
 -- The table of five uses, the lock modes of multiple granularity: 0 IS, 1 IX, 2 S, 3 SIX, 4 X.
-use Rattle.std.specs.Prelude.{◌≡◌, ℕ, Bool, true, false, not, ◌&&◌, ◌||◌, List, [], ◌∷◌, Decides, ◌==◌}
+use Rattle.std.specs.Prelude.{◌≡◌, ℕ, Bool, true, false, not, ◌&&◌, ◌||◌, List, [], ◌∷◌, Decides, ◌==◌, codes}
 use Rattle.uses.specs.Relations.{Relations}
+use Rattle.uses.specs.declared.five_uses.Use.{Use}
+use Rattle.uses.specs.declared.five_uses.Use.TheVariants
 
 -- intention shared
 abbrev pub IS : ℕ
@@ -65,3 +67,19 @@ five_uses = record { known = known; conflict = conflict; cover = cover }
 abbrev pub CoverIsDominance : Type 0
 CoverIsDominance =
     (a b : ℕ) → known a ≡ true → known b ≡ true → Decides (cover a b) ((c : ℕ) → conflict c b ≡ true → conflict c a ≡ true)
+
+-- the code of a use
+abbrev pub code_of : Use → ℕ
+code_of TheVariants.IS = IS
+code_of TheVariants.IX = IX
+code_of TheVariants.S = S
+code_of TheVariants.SIX = SIX
+code_of TheVariants.X = X
+
+-- a use as it is printed
+abbrev pub name_of : Use → List ℕ
+name_of TheVariants.IS = codes "IS"
+name_of TheVariants.IX = codes "IX"
+name_of TheVariants.S = codes "S"
+name_of TheVariants.SIX = codes "SIX"
+name_of TheVariants.X = codes "X"

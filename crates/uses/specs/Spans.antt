@@ -1,5 +1,5 @@
 -- The table of spans: a use is a direction and a run of a section's fields.
-use Rattle.std.specs.Prelude.{◌≡◌, ℕ, zero, suc, ◌+◌, ◌*◌, ◌/◌, ◌%◌, ◌<◌, ◌≤◌, Bool, true, false, cond, not, ◌&&◌, ◌||◌, is_some, Some, None, Option, ◌==◌, nat_le, nat_lt}
+use Rattle.std.specs.Prelude.{◌≡◌, ℕ, zero, suc, ◌+◌, ◌*◌, ◌/◌, ◌%◌, ◌<◌, ◌≤◌, Bool, true, false, cond, not, ◌&&◌, ◌||◌, is_some, Some, None, Option, ◌==◌, nat_le, nat_lt, List, ◌++◌, codes, decimal}
 use Rattle.uses.specs.Relations.{Relations}
 use Rattle.uses.specs.declared.spans.Direction.{Direction}
 use Rattle.uses.specs.declared.spans.Direction.TheVariants.{Up, Down, Works}
@@ -31,6 +31,16 @@ span (Some d) from to = cond (nat_lt from to) (Some (record { direction = d; fro
 -- the span that a code stands for; a code that stands for none is unknown
 abbrev pub span_of : ℕ → Option Span
 span_of a = span (direction_of (a / 65536)) (a / 256 % 256) (a % 256)
+
+-- a direction as it is printed
+abbrev pub direction_name : Direction → List ℕ
+direction_name Up = codes "up"
+direction_name Down = codes "down"
+direction_name Works = codes "works"
+
+-- a span as it is printed: its direction, and the two ends of its fields with a dash between
+abbrev pub span_text : Span → List ℕ
+span_text s = direction_name s.direction ++ (codes " " ++ (decimal s.from ++ (codes "-" ++ decimal s.to)))
 
 -- a span takes the fields from `from` up to but not including `to`
 abbrev pub takes : Span → ℕ → Bool

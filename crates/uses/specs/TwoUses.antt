@@ -1,6 +1,8 @@
 -- The table of two uses: 0 look, 1 move.
-use Rattle.std.specs.Prelude.{ℕ, Bool, not, ◌&&◌, ◌||◌, ◌==◌}
+use Rattle.std.specs.Prelude.{ℕ, Bool, not, ◌&&◌, ◌||◌, ◌==◌, List, codes}
 use Rattle.uses.specs.Relations.{Relations}
+use Rattle.uses.specs.declared.two_uses.Use.{Use}
+use Rattle.uses.specs.declared.two_uses.Use.TheVariants.{Look, Move}
 
 -- to look at a section
 abbrev pub is_look : ℕ → Bool
@@ -21,3 +23,13 @@ two_uses = record {
   conflict = λ a b. (known a && known b) && not (is_look a && is_look b);
   cover = λ a b. (is_move a && known b) || (is_look a && is_look b);
 }
+
+-- the code of a use
+abbrev pub code_of : Use → ℕ
+code_of Look = 0
+code_of Move = 1
+
+-- a use as it is printed
+abbrev pub name_of : Use → List ℕ
+name_of Look = codes "look"
+name_of Move = codes "move"

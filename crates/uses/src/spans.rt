@@ -1,10 +1,12 @@
 // The table of spans: a use is a direction and a run of a section's fields.
-ghost use Rattle.std.specs.Prelude.{◌≡◌, ◌<◌, ◌||◌};
+ghost use Rattle.std.specs.Prelude.{◌≡◌, ◌<◌, ◌||◌, Some};
+ghost use Rattle.std.specs.Result.{result_ok};
 ghost use Rattle.uses.specs.declared.spans.Direction.TheVariants.{Works};
-ghost use Rattle.uses.specs.Spans.{code_of, span_of, takes, share_a_field, has_all_fields_of, same, travel_one_way, spans_conflict, span_covers, spans, ExactCodes};
+ghost use Rattle.uses.specs.Spans.{code_of, direction_of, span_of, direction_name, span_text, takes, share_a_field, has_all_fields_of, same, travel_one_way, spans_conflict, span_covers, spans, ExactCodes};
 ghost use Rattle.uses.specs.SpanLaws.{spans_lawful};
 
-use crate::table::UseTable;
+use crate::table::{UnknownUse, UseTable};
+use std::fmt;
 
 // Which way a span is travelled; `Works` is for maintenance, which stands alone.
 #[derive(Clone, Copy, Debug, PartialEq, Eq)]
@@ -33,6 +35,33 @@ impl Direction {
     }
 }
 
+impl TryFrom<u32> for Direction {
+    type Error = UnknownUse;
+
+    ghost try_from_gives = { λ number r. result_ok r ≡ direction_of number };
+
+    fn try_from(number: u32) -> Result<Self, UnknownUse> {
+        match number {
+            1 => Ok(Direction::Up),
+            2 => Ok(Direction::Down),
+            3 => Ok(Direction::Works),
+            _ => Err(UnknownUse),
+        }
+    }
+}
+
+impl fmt::Display for Direction {
+    ghost output = { λ direction. Some (direction_name direction) };
+
+    fn fmt<W: fmt::Write>(&self, f: &mut fmt::Formatter<W>) -> fmt::Result {
+        f.write_str(match self {
+            Direction::Up => "up",
+            Direction::Down => "down",
+            Direction::Works => "works",
+        })
+    }
+}
+
 // The fields from `from` up to but not including `to`, in one direction.
 #[derive(Clone, Copy, Debug, PartialEq, Eq)]
 pub struct Span {
@@ -42,36 +71,6 @@ pub struct Span {
 }
 
 impl Span {
-    // The use code of this span.
-    pub fn code(self) -> u32
-        ensures { result ≡ code_of self }
-    {
-        self.direction as u32 * 65536 + self.from as u32 * 256 + self.to as u32
-    }
-
-    // The span of a use code; none, if the code is unknown.
-    pub fn from_code(mode: u32) -> Option<Span>
-        ensures { result ≡ span_of mode }
-    {
-        let direction = match mode / 65536 {
-            1 => Direction::Up,
-            2 => Direction::Down,
-            3 => Direction::Works,
-            _ => return None,
-        };
-        let from = (mode / 256 % 256) as u8;
-        let to = (mode % 256) as u8;
-        if from < to {
-            Some(Span {
-                direction,
-                from,
-                to,
-            })
-        } else {
-            None
-        }
-    }
-
     fn takes(self, field: u8) -> bool
         ensures { result ≡ takes self field }
     {
@@ -79,6 +78,7 @@ impl Span {
     }
 
     // If any field is shared, the first field of the span that starts later is.
+    #[tactic(auto, using(crate::specs::Fields::share_later))]
     fn shares_field(self, other: Span) -> bool
         ensures { result ≡ share_a_field self other }
     {
@@ -87,6 +87,7 @@ impl Span {
     }
 
     // A run of fields has all between its first and its last.
+    #[tactic(auto, using(crate::specs::Fields::has_first_and_last))]
     fn has_all_fields_of(self, other: Span) -> bool
         requires { other.from < other.to }
         ensures { result ≡ has_all_fields_of self other }
@@ -108,6 +109,48 @@ impl Span {
     }
 }
 
+// The use code of a span.
+impl From<Span> for u32 {
+    ghost from_gives = { λ span code. code ≡ code_of span };
+
+    fn from(span: Span) -> u32 {
+        span.direction as u32 * 65536 + span.from as u32 * 256 + span.to as u32
+    }
+}
+
+// The span of a use code.
+impl TryFrom<u32> for Span {
+    type Error = UnknownUse;
+
+    ghost try_from_gives = { λ mode r. result_ok r ≡ span_of mode };
+
+    fn try_from(mode: u32) -> Result<Self, UnknownUse> {
+        let direction = Direction::try_from(mode / 65536)?;
+        let from = (mode / 256 % 256) as u8;
+        let to = (mode % 256) as u8;
+        if from < to {
+            Ok(Span {
+                direction,
+                from,
+                to,
+            })
+        } else {
+            Err(UnknownUse)
+        }
+    }
+}
+
+impl fmt::Display for Span {
+    ghost output = { λ span. Some (span_text span) };
+
+    fn fmt<W: fmt::Write>(&self, f: &mut fmt::Formatter<W>) -> fmt::Result {
+        let direction = self.direction;
+        let from = self.from;
+        let to = self.to;
+        write!(f, "{direction} {from}-{to}")
+    }
+}
+
 // Uses by direction and fields: travel one way shares fields, works shares none.
 #[derive(Clone, Copy, Debug, Default)]
 pub struct Spans;
@@ -118,26 +161,21 @@ impl UseTable for Spans {
     ghost lawful = { λ t. spans_lawful };
 
     fn knows(&self, mode: u32) -> bool {
-        Span::from_code(mode).is_some()
+        Span::try_from(mode).is_ok()
     }
 
     fn conflicts(&self, a: u32, b: u32) -> bool {
-        match (Span::from_code(a), Span::from_code(b)) {
-            (Some(a), Some(b)) => a.conflicts_with(b),
-            _ => false,
-        }
+        matches!((Span::try_from(a), Span::try_from(b)), (Ok(a), Ok(b)) if a.conflicts_with(b))
     }
 
     fn covers(&self, a: u32, b: u32) -> bool {
-        match (Span::from_code(a), Span::from_code(b)) {
-            (Some(a), Some(b)) => a.covers(b),
-            _ => false,
-        }
+        matches!((Span::try_from(a), Span::try_from(b)), (Ok(a), Ok(b)) if a.covers(b))
     }
 }
 
-// Theorem: `Span::from_code` knows exactly the codes of spans with at least one field, and reads
+// Theorem: `Span::try_from` knows exactly the codes of spans with at least one field, and reads
 // each as the span that it is the code of.
+#[tactic(auto, using(crate::proofs::SpanCodes::exact_codes))]
 pub fn codes_are_exact()
     ensures { ExactCodes }
 {}

@@ -1,11 +1,24 @@
 // The interface between a line's use table and the book.
-ghost use Rattle.std.specs.Prelude.{◌≡◌, cond, Ok, Err};
+ghost use Rattle.std.specs.Prelude.{◌≡◌, cond, Ok, Err, Some, codes};
 ghost use Rattle.uses.specs.Relations.{Relations, UseLaws};
 ghost use Rattle.uses.specs.Checked.{checked};
+
+use std::error::Error;
+use std::fmt;
 
 // A code that the asked table does not know.
 #[derive(Clone, Copy, Debug, PartialEq, Eq)]
 pub struct UnknownUse;
+
+impl fmt::Display for UnknownUse {
+    ghost output = { λ _. Some (codes "no use of the table has this code") };
+
+    fn fmt<W: fmt::Write>(&self, f: &mut fmt::Formatter<W>) -> fmt::Result {
+        f.write_str("no use of the table has this code")
+    }
+}
+
+impl Error for UnknownUse {}
 
 // A use table (a lock mode compatibility matrix). A use (lock mode) is a 32-bit code.
 pub trait UseTable {

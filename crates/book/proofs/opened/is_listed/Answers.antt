@@ -1,13 +1,10 @@
-use Rattle.std.proofs.Common.{arith}
-use Rattle.std.proofs.lemmas.Bool.Decides.{nat_tests}
-use Rattle.book.proofs.Openings.{listed_more, listed_all}
+use Rattle.std.proofs.Common.{◌∙◌, rules, tests}
+use Rattle.std.proofs.lemmas.Iterator.{YieldsList-from_slice}
+use Rattle.std.proofs.lemmas.Iterator.Search.{any_from_yields_List}
+use Rattle.book.proofs.Openings.{is_of, listed_is}
 use Rattle.book.proofs.opened.is_listed.Goals as goal
 
-pub returns-then-e-dispatch : goal.returns-then-e-dispatch
-returns-then-e-dispatch c = let more = listed_more c.args.opened.now c.args.dispatch c.loop-e.e-index c.loop-e-test.true in grind (arith, nat_tests, more, c.loop-e.invariant)
-
-pub loop-e-preserved : goal.loop-e-preserved
-loop-e-preserved c = let more = listed_more c.args.opened.now c.args.dispatch c.loop-e.e-index c.loop-e-test.true in grind (arith, nat_tests, more, c.loop-e.invariant)
-
 pub returns : goal.returns
-returns c = let all = listed_all c.args.opened.now c.args.dispatch c.loop-e.e-index c.loop-e-test.false in grind (arith, nat_tests, all, c.loop-e.invariant)
+returns c =
+    let d = c.args.dispatch in
+    any_from_yields_List (is_of d) _ _ _ c.any.ensures.ran (YieldsList-from_slice c.args.opened.now (cc)) (λ x b q k. search (rules, tests)) ∙ listed_is d c.args.opened.now

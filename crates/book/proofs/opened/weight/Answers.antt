@@ -1,13 +1,14 @@
-use Rattle.std.proofs.Common.{arith}
-use Rattle.std.proofs.lemmas.Bool.Decides.{nat_tests}
-use Rattle.book.proofs.Openings.{weight_more, weight_all}
+use Rattle.std.proofs.Common.{◌≡◌, ap, ◌∙◌, rules, tests}
+use Rattle.std.specs.Option.{option_map}
+use Rattle.std.proofs.lemmas.Iterator.{YieldsList-from_slice}
+use Rattle.std.proofs.lemmas.Iterator.Search.{find_from_yields_List}
+use Rattle.book.proofs.Openings.{is_of, weight_found, weight_is}
 use Rattle.book.proofs.opened.weight.Goals as goal
 
-pub returns-then-e-dispatch : goal.returns-then-e-dispatch
-returns-then-e-dispatch c = let more = weight_more c.args.opened.now c.args.dispatch c.loop-e.e-index c.loop-e-test.true in grind (arith, nat_tests, more, c.loop-e.invariant)
-
-pub loop-e-preserved : goal.loop-e-preserved
-loop-e-preserved c = let more = weight_more c.args.opened.now c.args.dispatch c.loop-e.e-index c.loop-e-test.true in grind (arith, nat_tests, more, c.loop-e.invariant)
-
 pub returns : goal.returns
-returns c = let all = weight_all c.args.opened.now c.args.dispatch c.loop-e.e-index c.loop-e-test.false in grind (arith, nat_tests, all, c.loop-e.invariant)
+returns c =
+    let d = c.args.dispatch in
+    let es = c.args.opened.now in
+    let found = find_from_yields_List (is_of d) _ _ c.find.result c.find.ensures.ran (YieldsList-from_slice es c.iter.ensures.rest) (λ x b q k. search (rules, tests)) in
+    let weighs : c.map_or.result ≡ weight_found (option_map (λ e. e.now) c.find.result) = search rules in
+    weighs ∙ ap weight_found found ∙ weight_is d es

@@ -7,8 +7,8 @@ use Rattle.lines.proofs.field.value_of.Goals as goal
 pub overflow_mul-number : goal.overflow_mul-number
 overflow_mul-number c = let small = value_small c.args.digits.now c.loop-digit.digit-index c.requires.0 c.loop-digit-test.true c.requires.1 in omega (arith, c.loop-digit.invariant)
 
-pub overflow_sub-number : goal.overflow_sub-number
-overflow_sub-number c = (digit_at c.args.digits.now c.loop-digit.digit-index c.requires.0 c.loop-digit-test.true).0
+pub overflow_sub-digit : goal.overflow_sub-digit
+overflow_sub-digit c = (digit_at c.args.digits.now c.loop-digit.digit-index c.requires.0 c.loop-digit-test.true).0
 
 pub overflow_add-number : goal.overflow_add-number
 overflow_add-number c =

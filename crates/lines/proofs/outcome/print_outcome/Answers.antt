@@ -1,11 +1,17 @@
-use Rattle.std.proofs.Common.{◌≡◌, ℕ, List, ◌++◌, length, get_or, codes, ap, ◌∙◌, arith, w8, w16, Fits, rules}
+use Rattle.std.proofs.Common.{◌≡◌, ℕ, ◌++◌, length, get_or, [], codes, ap, ◌∙◌, arith, w8, w16, Fits, rules}
 use Rattle.std.proofs.lemmas.List.{take_all}
-use Rattle.printed.specs.Text.{text, put_behind}
+use Rattle.printed.specs.Text.{put_behind}
+use Rattle.printed.proofs.Behind.{behind_fits, behind_behind}
 use Rattle.lines.specs.Words.{words, reply, printed, printed_line, named_lines, named_recalled, named_woken}
 use Rattle.lines.proofs.Lengths.{Below}
 use Rattle.lines.proofs.NameLines.{lines_same, recalled_places, woken_places, all_fits}
-use Rattle.lines.proofs.Putting.{put, also}
 use Rattle.lines.proofs.outcome.print_outcome.Goals as goal
+
+pub put_names-requires : goal.put_names-requires
+put_names-requires c = rw c.put_reply.ensures.puts (behind_fits c.clear.new.self _)
+
+pub put_names-requires-2 : goal.put_names-requires-2
+put_names-requires-2 c = rw c.put_names.ensures (behind_fits c.put_reply.new.out _)
 
 pub returns : goal.returns
 unfolding printed
@@ -23,16 +29,15 @@ returns c =
     let line = printed_line n (words (reply c.args.outcome)) in
     let recalls = named_lines n (codes "recall") (named_recalled r) in
     let wakes = named_lines n (codes "wake") (named_woken r) in
-    let recalled : text c.put_names.new.out ≡ put_behind (text c.put_reply.new.out) recalls =
+    let recalled : c.put_names.new.out ≡ put_behind (c.put_reply.new.out) recalls =
     c.put_names.ensures
-    ∙ ap (put_behind (text c.put_reply.new.out))
+    ∙ ap (put_behind (c.put_reply.new.out))
     (lines_same n (codes "recall") (recalled_places r.recalled m r.dispatches long c.min-recalled.ensures) (recalled_places r.recalled m r.sections long' c.min-recalled.ensures)) in
-    let woken : text c.put_names-2.new.out ≡ put_behind (text c.put_names.new.out) wakes =
+    let woken : c.put_names-2.new.out ≡ put_behind (c.put_names.new.out) wakes =
     c.put_names-2.ensures
-    ∙ ap (put_behind (text c.put_names.new.out))
+    ∙ ap (put_behind (c.put_names.new.out))
     (lines_same n (codes "wake") (woken_places r.recalled r.woken m end r.dispatches long c.min-recalled.ensures c.min-named.ensures) (woken_places r.recalled r.woken m end r.sections long' c.min-recalled.ensures c.min-named.ensures)) in
-    let all = also (put (text c.clear.new.self) line c.put_reply.ensures.puts)
-    (also (put (text c.put_reply.new.out) recalls recalled) (put (text c.put_names.new.out) wakes woken)) in
-    all.is
-    ∙ ap (λ (before : List ℕ). put_behind before (line ++ (recalls ++ wakes))) c.clear.ensures
-    ∙ take_all 2048 (line ++ (recalls ++ wakes)) (all_fits n line r (omega arith) c.put_reply.ensures.short long below below')
+    rw (woken, recalled, c.put_reply.ensures.puts, c.clear.ensures)
+    (behind_behind (put_behind [] line) recalls wakes
+    ∙ behind_behind [] line (recalls ++ wakes)
+    ∙ take_all 2048 (line ++ (recalls ++ wakes)) (all_fits n line r (omega arith) c.put_reply.ensures.short long below below'))

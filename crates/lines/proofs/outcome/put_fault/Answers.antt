@@ -1,31 +1,35 @@
-use Rattle.std.proofs.Common.{◌≡◌, ℕ, ◌≤◌, List, length, codes, decimal, sym, ap, subst, ⊎_elim, arith}
+use Rattle.std.proofs.Common.{◌≡◌, ℕ, sym, ap, ◌∙◌, ⊎_elim, arith, append_assoc}
 use Rattle.model.specs.Calls.{is_refused}
-use Rattle.printed.specs.Text.{text}
+use Rattle.printed.proofs.Behind.{behind_behind}
+use Rattle.lines.specs.Faults.{fault_number, fault_place, fault_layer}
 use Rattle.lines.specs.Words.{words, answer, fault_reply}
 use Rattle.lines.specs.declared.fault.Layer.{Layer}
 use Rattle.lines.proofs.Lengths.{fault_short, refused_short}
-use Rattle.lines.proofs.Putting.{put, also, regrouped}
 use Rattle.lines.proofs.outcome.put_fault.Goals as goal
 
 -- the words of a fault, by its layer
-said-by : (number place : ℕ) {l k : Layer} → l ≡ k → words (fault_reply k number place) ≡ words (fault_reply l number place)
-said-by number place e = sym (ap (λ (l : Layer). words (fault_reply l number place)) e)
+said-by : (number place : ℕ) {l k : Layer} → l ≡ k → words (fault_reply l number place) ≡ words (fault_reply k number place)
+said-by number place e = ap (λ (l : Layer). words (fault_reply l number place)) e
 
 pub returns-in-Line : goal.returns-in-Line
 returns-in-Line c =
     let f = c.args.fault in
-    let is = said-by f.number f.place c.in-Line.is in
-    let all = also (put (text c.args.out.now) (codes "fault ") c.put_all.ensures)
-    (also (put (text c.put_all.new.self) (decimal f.number) c.put_number.ensures)
-    (also (put (text c.put_number.new.self) (codes " at ") c.put_all-in-Line.ensures)
-    (put (text c.put_all-in-Line.new.self) (decimal f.place) c.put_number-in-Line.ensures))) in
-    record { puts = (regrouped all is).is; short = subst (λ (ws : List ℕ). length ws ≤ 16) is (fault_short f.number f.place (omega arith) (omega arith)) }
+    let is = said-by (fault_number f) (fault_place f) (sym c.layer.ensures ∙ c.in-Line.is) in
+    rw is record {
+      puts =
+          rw (c.put_number-in-Line.ensures, c.from-in-Line.ensures, c.place.ensures, c.put_all-in-Line.ensures, c.put_number.ensures, c.from.ensures, c.number.ensures, c.put_all.ensures)
+          (simp (behind_behind, append_assoc));
+      short = fault_short (fault_number f) (fault_place f) (omega arith) (omega arith);
+    }
 
 pub returns-in-UseTable : goal.returns-in-UseTable
 returns-in-UseTable c =
     let f = c.args.fault in
-    let is : words (answer (is_refused f.number)) ≡ words (fault_reply f.layer f.number f.place) =
-    ⊎_elim (said-by f.number f.place) (said-by f.number f.place) c.in-UseTable.is in
-    let all = also (put (text c.args.out.now) (codes "refused ") c.put_all-in-UseTable.ensures)
-    (put (text c.put_all-in-UseTable.new.self) (decimal f.number) c.put_number-in-UseTable.ensures) in
-    record { puts = (regrouped all is).is; short = subst (λ (ws : List ℕ). length ws ≤ 16) is (refused_short f.number (omega arith)) }
+    let is : words (fault_reply (fault_layer f) (fault_number f) (fault_place f)) ≡ words (answer (is_refused (fault_number f))) =
+    ⊎_elim (λ e. said-by (fault_number f) (fault_place f) (sym c.layer.ensures ∙ e)) (λ e. said-by (fault_number f) (fault_place f) (sym c.layer.ensures ∙ e)) c.in-UseTable.is in
+    rw is record {
+      puts =
+          rw (c.put_number-in-UseTable.ensures, c.from-in-UseTable.ensures, c.number-in-UseTable.ensures, c.put_all-in-UseTable.ensures)
+          (simp behind_behind);
+      short = refused_short (fault_number f) (omega arith);
+    }

@@ -1,5 +1,10 @@
-use Rattle.marks.proofs.Bits.{insert_marked}
+use Rattle.std.proofs.Common.{arith}
+use Rattle.std.specs.Int.{w64}
+use Rattle.std.proofs.lemmas.Nat.Bits.{bit_at_set_same, bit_at_set_other}
+use Rattle.marks.specs.Marks.{marked}
+use Rattle.marks.proofs.Bits.{bits}
 use Rattle.marks.proofs.Marks.insert.Goals as goal
 
 pub returns : goal.returns
-returns c = insert_marked c.args.self.now c.args.k c.requires
+unfolding marked
+returns c = grind (arith, bits, bit_at_set_same w64, bit_at_set_other w64)

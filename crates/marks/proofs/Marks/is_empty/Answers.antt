@@ -1,6 +1,12 @@
 use Rattle.std.proofs.Common.{arith}
-use Rattle.marks.proofs.Bits.{zero_unmarked, bits_marked}
+use Rattle.std.specs.Int.{w64, trailing_zeros}
+use Rattle.std.proofs.lemmas.Bool.Decides.{nat_tests}
+use Rattle.std.proofs.lemmas.Nat.Bits.{bit_at-trailing_zeros}
+use Rattle.marks.specs.Marks.{marked}
 use Rattle.marks.proofs.Marks.is_empty.Goals as goal
 
-pub returns : goal.returns
-returns c = record { none = zero_unmarked c.args.self; some = bits_marked c.args.self (omega arith) }
+pub returns-clause-some : goal.returns-clause-some
+unfolding marked
+returns-clause-some c h =
+    let lowest = bit_at-trailing_zeros w64 c.args.self.bits (grind (arith, nat_tests)) (omega arith) in
+    (trailing_zeros w64 c.args.self.bits, grind (arith, nat_tests, lowest.0, lowest.1))

@@ -1,11 +1,8 @@
-use Rattle.std.proofs.Common.{ℕ, [], refl, ap, ◌∙◌}
+use Rattle.std.proofs.Common.{refl}
 use Rattle.std.proofs.lemmas.Result.{err_from_is_err_and}
-use Rattle.model.specs.State.{taken_out}
-use Rattle.model.specs.Calls.{plain, is_ok, filled, woken}
 use Rattle.model.specs.declared.call.Call.TheVariants as call
 use Rattle.book.specs.Held.{state}
-use Rattle.book.specs.declared.answers.Answer.TheVariants as answer
-use Rattle.book.proofs.Carrying.{carried_refused, carried_accepted}
+use Rattle.book.proofs.Carrying.{carried_refused, carried_end, kept}
 use Rattle.book.proofs.book.Book.withdraw.Goals as goal
 
 pub returns-in_err-number : goal.returns-in_err-number
@@ -14,19 +11,26 @@ returns-in_err-number g c =
     let p = err_from_is_err_and c.from_residual.result c.from_residual.ensures.1 in
     rw (p.1, p.2)
     (record {
-      done = carried_refused (g.T.UseTable.meaning b.table) (g.O.RecallOrder.meaning b.order) (state b) (call.Withdraw c.args.dispatch) c.in_err-number.field-0.0 c.clear.new.report (state b) c.in_err-number.ensures c.clear.ensures refl;
-      table = refl;
-      order = refl;
+      carried = carried_refused (g.T.UseTable.meaning b.policy.table) (g.O.RecallOrder.meaning b.policy.order) (state b.tables) (call.Withdraw c.args.dispatch) c.in_err-number.field-0.0 c.empty.result (state b.tables) c.in_err-number.ensures c.empty.ensures refl;
+      policy = refl;
     })
+
+pub invariant_of-self : goal.invariant_of-self
+invariant_of-self g c =
+    let b = c.args.self.now in
+    let u = g.T.UseTable.meaning b.policy.table in
+    let o = g.O.RecallOrder.meaning b.policy.order in
+    let asked = call.Withdraw c.args.dispatch in
+    let passed = c.in_ok-number.ensures in
+    record { kept = kept u o (g.met.O.RecallOrder.lawful b.policy.order) (state b.tables) asked b.kept (carried_end u o (state b.tables) asked c.args.dispatch c.in_ok-number.number c.end.result (state c.end.new.self) passed.0 refl passed.1 c.end.ensures.named c.end.ensures.after) }
 
 pub returns : goal.returns
 returns g c =
     let b = c.args.self.now in
-    let u = g.T.UseTable.meaning b.table in
-    let d = c.args.dispatch in
+    let u = g.T.UseTable.meaning b.policy.table in
+    let o = g.O.RecallOrder.meaning b.policy.order in
     let passed = c.in_ok-number.ensures in
     record {
-      done = carried_accepted u (g.O.RecallOrder.meaning b.order) (state b) (call.Withdraw d) answer.Ok (plain (taken_out d (state b)) is_ok) c.end.new.report (state c.end.new.self) passed.0 refl refl (c.end.ensures.named ∙ ap (λ (n : ℕ). filled [] (woken u (state b) (taken_out n (state b)))) passed.1) (c.end.ensures.after ∙ ap (λ (n : ℕ). taken_out n (state b)) passed.1);
-      table = c.end.ensures.table;
-      order = c.end.ensures.order;
+      carried = carried_end u o (state b.tables) (call.Withdraw c.args.dispatch) c.args.dispatch c.in_ok-number.number c.end.result (state c.end.new.self) passed.0 refl passed.1 c.end.ensures.named c.end.ensures.after;
+      policy = refl;
     }

@@ -1,24 +1,24 @@
-use Rattle.std.proofs.Common.{◌+◌, [], ◌∷◌, get_or, take, sym, ap, ◌∙◌, arith, length-take}
-use Rattle.std.proofs.lemmas.List.{take_more, take_all}
-use Rattle.printed.specs.Text.{text, put_behind}
-use Rattle.printed.proofs.Behind.{behind_none, behind_then}
+use Rattle.std.proofs.Common.{ℕ, ◌+◌, ◌-◌, ◌≤◌, List, ◌++◌, take, sym, ap, ◌∙◌, arith, length-take}
+use Rattle.std.proofs.lemmas.Slice.{take-put_mid, drop-put_mid}
+use Rattle.printed.specs.Text.{put_behind}
+use Rattle.printed.proofs.Behind.{take_fitting, blank_after}
 use Rattle.printed.proofs.place.Printed.put_all.Goals as goal
 
-pub loop-byte-init : goal.loop-byte-init
-loop-byte-init c =
-    let s = c.args.self.now in
-    behind_none (text s) (omega (arith, length-take s.count s.bytes))
-
-pub loop-byte-preserved : goal.loop-byte-preserved
-loop-byte-preserved c =
-    let before = text c.args.self.now in
-    let more = c.args.more.now in
-    let i = c.loop-byte.byte-index in
-    let byte = get_or more i 0 ∷ [] in
-    behind_then before (text c.loop-byte.self) (text c.put.new.self) (take i more) byte (take (i + 1) more) c.loop-byte.invariant c.put.ensures (sym (take_more more i 0 c.loop-byte-test.true))
+pub invariant_of-self : goal.invariant_of-self
+invariant_of-self c =
+    let s = c.self.inside in
+    let fitting = c.min-fitting.result in
+    let end = s.count + fitting in
+    let bound : s.count + fitting ≤ 2048 = omega arith in
+    (bound, drop-put_mid s.count (end - s.count) s.bytes c.copy_from_slice.new.self end (omega arith) (omega arith) (omega arith) ∙ blank_after s.bytes s.count fitting c.self.invariant.1)
 
 pub returns : goal.returns
 returns c =
-    let before = text c.args.self.now in
+    let s = c.self.inside in
     let more = c.args.more.now in
-    c.loop-byte.invariant ∙ ap (put_behind before) (take_all c.loop-byte.byte-index more (omega arith))
+    let end = s.count + c.min-fitting.result in
+    take-put_mid s.count (end - s.count) s.bytes c.copy_from_slice.new.self end (omega arith) (omega arith)
+    ∙ ap (λ (t : List ℕ). take s.count s.bytes ++ t) c.copy_from_slice.ensures.after
+    ∙ ap (λ (n : ℕ). take s.count s.bytes ++ take n more) c.min-fitting.ensures
+    ∙ sym (take_fitting 2048 s.count (take s.count s.bytes) more (omega (arith, length-take s.count s.bytes)) c.self.invariant.0)
+    ∙ ap (λ (b : List ℕ). put_behind b more) c.self.view_is

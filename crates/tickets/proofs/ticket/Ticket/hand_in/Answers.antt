@@ -5,53 +5,51 @@ use Rattle.book.specs.Held.{state}
 use Rattle.book.proofs.GoesOn.{goes_on}
 use Rattle.tickets.specs.Answered.{booked}
 use Rattle.tickets.specs.HandIn.{hand_in}
-use Rattle.tickets.proofs.Handing.{condition_told, ended_as, refused_free, answered_ended, made_as, freed}
+use Rattle.tickets.proofs.Handing.{condition_told, ended_as, refused_free, answered_ended, made_as, free_after}
 use Rattle.tickets.proofs.ticket.Ticket.hand_in.Goals as goal
 
 pub returns-in_err-end : goal.returns-in_err-end
 returns-in_err-end g c =
     let b = c.args.book.now in
-    let u = g.T.UseTable.meaning b.table in
-    let o = g.O.RecallOrder.meaning b.order in
+    let u = g.T.UseTable.meaning b.policy.table in
+    let o = g.O.RecallOrder.meaning b.policy.order in
+    let s = state b.tables in
     let d = c.args.self.dispatch in
     let small = c.args.self.small in
     let k = c.in_ok-condition.field-0.condition in
     let e = c.in_err-end.field-0.0 in
     let r = c.end.new.report in
-    let t = state c.end.new.book in
-    let is = condition_told u (state b) d small k c.in_ok-condition.field-0.waits_for c.in_ok-condition.ensures in
-    let made = c.in_err-end.ensures.done in
-    let does = made_as u (state b) d small o r t k is (Err e) made in
+    let t = state c.end.new.book.tables in
+    let is = condition_told u s d small k c.in_ok-condition.field-0.waits_for c.in_ok-condition.ensures in
+    let made = c.in_err-end.ensures.carried in
+    let does = made_as u s d small o r t k is (Err e) made in
     let p = err_from_is_err_and c.from_residual-in_err-end.result c.from_residual-in_err-end.ensures.1 in
     rw (p.1, p.2)
     (record {
-      ended = ended_as u (state b) d small k is (Err e) (refused_free u (state b) d small o r t k is e made);
-      done = does;
-      law = goes_on u (g.met.T.UseTable.lawful b.table) o (g.met.O.RecallOrder.lawful b.order) (state b) (hand_in (condition u (state b) d) d) (Err e) r t (λ _. does);
-      freed = freed u (g.met.T.UseTable.lawful b.table) o (g.met.O.RecallOrder.lawful b.order) (state b) d small r t (Err e) does;
-      table = c.in_err-end.ensures.table;
-      order = c.in_err-end.ensures.order;
+      ended = ended_as u s d small k is (Err e) (refused_free u s d small o r t k is e made);
+      done = record { carried = does; policy = c.in_err-end.ensures.policy };
+      law = goes_on u (g.met.T.UseTable.lawful b.policy.table) o (g.met.O.RecallOrder.lawful b.policy.order) s (hand_in (condition u s d) d) (Err e) r t does;
+      freed = free_after u s d small o r t k is (b.kept.well_formed.disjoint d) (Err e) made;
     })
 
 pub returns : goal.returns
 returns g c =
     let b = c.args.book.now in
-    let u = g.T.UseTable.meaning b.table in
-    let o = g.O.RecallOrder.meaning b.order in
+    let u = g.T.UseTable.meaning b.policy.table in
+    let o = g.O.RecallOrder.meaning b.policy.order in
+    let s = state b.tables in
     let d = c.args.self.dispatch in
     let small = c.args.self.small in
     let k = c.in_ok-condition.field-0.condition in
     let y = c.ending_of.result in
     let r = c.end.new.report in
-    let t = state c.end.new.book in
-    let is = condition_told u (state b) d small k c.in_ok-condition.field-0.waits_for c.in_ok-condition.ensures in
-    let made = answered_ended u (state b) d small o r t k is c.in_ok-end.field-0 y c.ending_of.ensures c.in_ok-end.ensures.done in
-    let does = made_as u (state b) d small o r t k is (booked y) made in
+    let t = state c.end.new.book.tables in
+    let is = condition_told u s d small k c.in_ok-condition.field-0.waits_for c.in_ok-condition.ensures in
+    let made = answered_ended u s d small o r t k is c.in_ok-end.field-0 y c.ending_of.ensures c.in_ok-end.ensures.carried in
+    let does = made_as u s d small o r t k is (booked y) made in
     record {
-      ended = ended_as u (state b) d small k is y c.ending_of.ensures;
-      done = does;
-      law = goes_on u (g.met.T.UseTable.lawful b.table) o (g.met.O.RecallOrder.lawful b.order) (state b) (hand_in (condition u (state b) d) d) (booked y) r t (λ _. does);
-      freed = freed u (g.met.T.UseTable.lawful b.table) o (g.met.O.RecallOrder.lawful b.order) (state b) d small r t (booked y) does;
-      table = c.in_ok-end.ensures.table;
-      order = c.in_ok-end.ensures.order;
+      ended = ended_as u s d small k is y c.ending_of.ensures;
+      done = record { carried = does; policy = c.in_ok-end.ensures.policy };
+      law = goes_on u (g.met.T.UseTable.lawful b.policy.table) o (g.met.O.RecallOrder.lawful b.policy.order) s (hand_in (condition u s d) d) (booked y) r t does;
+      freed = free_after u s d small o r t k is (b.kept.well_formed.disjoint d) (booked y) made;
     }

@@ -11,42 +11,36 @@ use Rattle.tickets.proofs.ticket.Ticket.open.Goals as goal
 pub returns-in_err-open : goal.returns-in_err-open
 returns-in_err-open g c =
     let b = c.args.book.now in
-    let u = g.T.UseTable.meaning b.table in
-    let o = g.O.RecallOrder.meaning b.order in
-    let asked = call.Open c.args.dispatch c.args.weight in
-    let e = c.in_err-open.field-0.0 in
-    let does = c.in_err-open.ensures.done in
+    let u = g.T.UseTable.meaning b.policy.table in
+    let o = g.O.RecallOrder.meaning b.policy.order in
+    let does = c.in_err-open.ensures in
     let p = err_from_is_err_and c.from_residual.result c.from_residual.ensures.1 in
     rw (p.1, p.2)
     (record {
       named = tt;
       done = does;
-      law = goes_on u (g.met.T.UseTable.lawful b.table) o (g.met.O.RecallOrder.lawful b.order) (state b) asked (Err e) c.open.new.report (state c.open.new.self) (λ _. does);
-      table = c.in_err-open.ensures.table;
-      order = c.in_err-open.ensures.order;
+      law = goes_on u (g.met.T.UseTable.lawful b.policy.table) o (g.met.O.RecallOrder.lawful b.policy.order) (state b.tables) (call.Open c.args.dispatch c.args.weight) (Err c.in_err-open.field-0.0) c.open.new.report (state c.open.new.self.tables) does.carried;
     })
 
 pub invariant_of-result : goal.invariant_of-result
 invariant_of-result g c =
     let b = c.args.book.now in
-    let u = g.T.UseTable.meaning b.table in
-    let o = g.O.RecallOrder.meaning b.order in
+    let u = g.T.UseTable.meaning b.policy.table in
+    let o = g.O.RecallOrder.meaning b.policy.order in
     let asked = call.Open c.args.dispatch c.args.weight in
-    let through = passed u o (state b) asked c.open.new.report (state c.open.new.self) c.in_ok-open.field-0 c.in_ok-open.ensures.done in
-    let below = (passed_opening u (state b) c.args.dispatch c.args.weight through).0 in
+    let through = passed u o (state b.tables) asked c.open.new.report (state c.open.new.self.tables) c.in_ok-open.field-0 c.in_ok-open.ensures.carried in
+    let below = (passed_opening u (state b.tables) c.args.dispatch c.args.weight through).0 in
     record { small = omega (arith, below) }
 
 pub returns : goal.returns
 returns g c =
     let b = c.args.book.now in
-    let u = g.T.UseTable.meaning b.table in
-    let o = g.O.RecallOrder.meaning b.order in
+    let u = g.T.UseTable.meaning b.policy.table in
+    let o = g.O.RecallOrder.meaning b.policy.order in
     let asked = call.Open c.args.dispatch c.args.weight in
-    let does = answered_ok u o (state b) asked c.open.new.report (state c.open.new.self) c.in_ok-open.field-0 refl c.in_ok-open.ensures.done in
+    let does = answered_ok u o (state b.tables) asked c.open.new.report (state c.open.new.self.tables) c.in_ok-open.field-0 refl c.in_ok-open.ensures.carried in
     record {
       named = refl;
-      done = does;
-      law = goes_on u (g.met.T.UseTable.lawful b.table) o (g.met.O.RecallOrder.lawful b.order) (state b) asked (Ok answer.Ok) c.open.new.report (state c.open.new.self) (λ _. does);
-      table = c.in_ok-open.ensures.table;
-      order = c.in_ok-open.ensures.order;
+      done = record { carried = does; policy = c.in_ok-open.ensures.policy };
+      law = goes_on u (g.met.T.UseTable.lawful b.policy.table) o (g.met.O.RecallOrder.lawful b.policy.order) (state b.tables) asked (Ok answer.Ok) c.open.new.report (state c.open.new.self.tables) does;
     }

@@ -1,0 +1,66 @@
+use Rattle.std.proofs.Common.{◌≡◌, ℕ, ◌+◌, ◌<◌, ◌≤◌, List, [], ◌∷◌, ◌++◌, length, Option, unwrap_or, sym, ap, ◌∙◌, subst, arith}
+use Rattle.model.specs.State.{State}
+use Rattle.model.specs.Recalling.{named}
+use Rattle.model.specs.Calls.{filled}
+use Rattle.model.specs.declared.report.Named.{Named}
+use Rattle.model.specs.declared.report.Report.{Report}
+use Rattle.model.proofs.Turns.{victim_open}
+use Rattle.book.specs.Held.{state}
+use Rattle.book.proofs.Steady.{steady_few, steady_grounded, tables_steady}
+use Rattle.book.proofs.Turning.{Turned, turned_none, turned_more, came_early, came_late, name}
+use Rattle.book.proofs.tables.Tables.recall_all.Goals as goal
+
+pub loop-turn-init : goal.loop-turn-init
+loop-turn-init g c =
+    turned_none (g.T.UseTable.meaning c.args.policy.now.table) (g.O.RecallOrder.meaning c.args.policy.now.order) (state c.args.self.now) c.empty-report.result c.empty-report.ensures
+
+pub returns-in_default : goal.returns-in_default
+returns-in_default g c =
+    let low : c.loop-turn._turn < 64 = omega (arith, c.loop-turn-test.true) in
+    let b₀ = c.args.self.now in
+    let w = tables_steady b₀ in
+    let end =
+    came_early (g.T.UseTable.meaning c.args.policy.now.table) (g.O.RecallOrder.meaning c.args.policy.now.order) (g.met.O.RecallOrder.lawful c.args.policy.now.order) (state b₀) (state c.loop-turn.self) c.loop-turn._turn c.loop-turn.report
+    (steady_grounded (state b₀) w) (steady_few (state b₀) w) low c.loop-turn.invariant (sym c.victim.ensures ∙ c.in_default.is)
+    in
+    record { after = end.state; named = end.report }
+
+pub recall-requires : goal.recall-requires
+recall-requires g c =
+    let b = c.loop-turn.self in
+    victim_open (g.T.UseTable.meaning c.args.policy.now.table) (g.O.RecallOrder.meaning c.args.policy.now.order) (g.met.O.RecallOrder.lawful c.args.policy.now.order) (state b) (steady_grounded (state b) (tables_steady b)) c.in-Some.dispatch (sym c.victim.ensures ∙ c.in-Some.is)
+
+pub name_recalled-requires : goal.name_recalled-requires
+name_recalled-requires g c =
+    let t = c.loop-turn.invariant in
+    let same : c.loop-turn.report.recalled ≡ length t.so_far = ap (λ (r : Report). r.recalled) t.named_so in
+    omega (arith, same, t.count, c.loop-turn-test.true)
+
+pub loop-turn-preserved : goal.loop-turn-preserved
+loop-turn-preserved g c =
+    let low : c.loop-turn._turn < 64 = omega (arith, c.loop-turn-test.true) in
+    let b₀ = c.args.self.now in
+    let b = c.loop-turn.self in
+    let u = g.T.UseTable.meaning c.args.policy.now.table in
+    let o = g.O.RecallOrder.meaning c.args.policy.now.order in
+    let d = c.in-Some.dispatch in
+    let who : ◌≡◌ {A = Named} (record { dispatch = d; section = c.unwrap_or-section.result }) (named u (state b) d) = ap (name d) (c.unwrap_or-section.ensures ∙ ap (λ (v : Option ℕ). unwrap_or v 65535) c.waiting_section-waiting.ensures) in
+    let more : (rs : List Named) → c.loop-turn.report ≡ filled rs [] → c.name_recalled.new.self ≡ filled (rs ++ named u (state b) d ∷ []) [] =
+    λ rs is. c.name_recalled.ensures rs is ∙ ap (λ (n : Named). filled (rs ++ n ∷ []) []) who
+    in
+    let turned =
+    turned_more u o (state b₀) (state b) c.loop-turn._turn c.loop-turn.report c.name_recalled.new.self d low (sym c.victim.ensures ∙ c.in-Some.is)
+    c.loop-turn.invariant more
+    in
+    subst (λ (s : State). Turned u o (state b₀) s (c.loop-turn._turn + 1) c.name_recalled.new.self) (sym c.recall.ensures) turned
+
+pub returns : goal.returns
+returns g c =
+    let high : 64 ≤ c.loop-turn._turn = omega (arith, c.loop-turn-test.false) in
+    let b₀ = c.args.self.now in
+    let w = tables_steady b₀ in
+    let end =
+    came_late (g.T.UseTable.meaning c.args.policy.now.table) (g.O.RecallOrder.meaning c.args.policy.now.order) (g.met.O.RecallOrder.lawful c.args.policy.now.order) (state b₀) (state c.loop-turn.self) c.loop-turn._turn c.loop-turn.report
+    (steady_grounded (state b₀) w) (steady_few (state b₀) w) high c.loop-turn.invariant
+    in
+    record { after = end.state; named = end.report }
