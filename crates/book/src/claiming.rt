@@ -32,8 +32,8 @@ impl Tables {
     }
 
     // Enters a claim, recalls until no cycle stands, and names who is woken.
-    // Kept: `here` and `room`, as at `Tables::enter`, are of the tables and the claim together, so
-    // no type of one of them can hold them.
+    // Kept: `here`, as at `Tables::enter`, is of the tables and the claim together, and `room` is of
+    // this moment, since tables may be full; so the invariant of no one type can hold them.
     fn enter_and_look<T: UseTable, O: RecallOrder>(
         &mut self,
         policy: &Policy<T, O>,

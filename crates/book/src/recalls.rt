@@ -25,7 +25,7 @@ impl Tables {
                 return report;
             };
             // Kept: a report has numbers and no options, so where nobody waits the definition gives
-            // 65535, the number of an unused place. Who is on a cycle waits.
+            // 65535, the number of an unused place. Who is on a cycle waits, so it is never taken.
             let waiting = self.claims.waiting_section(&policy.table, dispatch);
             let section = waiting.unwrap_or(65535);
             self.recall(dispatch);

@@ -54,7 +54,8 @@ impl<'a> Placed<'a> {
 }
 
 // The claims in their places, in order, from place `next` on.
-// Kept: an iterator with a name and a place of its own, since a function cannot hand out a chain.
+// Kept: an iterator written by hand, with its index: a chain has a closure, so its type has no
+// name, and a function could not hand it out.
 #[derive(Drop)]
 pub struct Places<'a> {
     pub claims: &'a [Claim],

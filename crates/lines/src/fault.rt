@@ -72,8 +72,7 @@ impl Fault {
 }
 
 // The field that a refusal concerns, from 1.
-// Kept: a number, as of a byte: it passes up as the fault's place, beside the places of line
-// faults.
+// Kept: a number, since `Fault::place` gives it where a line fault has the place of a byte.
 fn field_of(refusal: Refusal) -> u8
     ensures { result ≡ field refusal }
 {

@@ -7,8 +7,8 @@ ghost use Rattle.std.specs.Fn.{FnReturnsAt};
 use std::marker::Model;
 
 // At most N entries, in order of entering. The places behind the count are free.
-// Kept: an array with a const parameter. The library's `ArrayVec` is such a list too, but asks its
-// entries for a `Default`, and its `retain` answers a relation; here all contracts are equations.
+// Kept: an array with a count. `new` here takes any entry to fill with, where the library's
+// `ArrayVec::new` asks for a `Default`; and its `retain` promises a relation, this one a `filter`.
 #[derive(Drop)]
 pub struct FixedList<X, const N: usize> {
     items: [X; N],

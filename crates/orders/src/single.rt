@@ -1,7 +1,6 @@
 // The orders that look at one number of the summary.
 // Kept: each of the three is a type for its one comparison and its meaning. A type generic in the
-// number would need a type and a trait of its own for each number, and callers write the plain
-// values `Newest`, `Lightest` and `Fewest`.
+// number would need one more trait, and a type for each number all the same.
 ghost use Rattle.orders.specs.Orders.{newest, lightest, fewest};
 ghost use Rattle.std.proofs.Common.{rules};
 

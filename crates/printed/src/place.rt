@@ -89,7 +89,7 @@ impl Printed {
 
     // Puts the digits of a number behind the others.
     // Kept: no `write!`, which answers a Result, and whose contract says nothing of what was
-    // written where that is an Err; here the digits are promised always.
+    // written where that is an Err; here it is promised, also where the room cuts the digits.
     pub fn put_number(&mut self, number: u32)
         ensures { self.new ≡ put_behind self.old (decimal number) }
     {

@@ -8,8 +8,8 @@ use uses::table::UseTable;
 // A console (a session over one input): a book, and the line that has begun.
 #[derive(Drop)]
 pub struct Console<T: UseTable, O> {
-    // Kept: that its policy stays is a clause of its own at each call, one equation, so that
-    // `Reads` and its like speak of nothing but what is read and printed
+    // Kept: each call says in a clause of its own, one equation, that the book's policy stays, so
+    // that `Reads` and its like speak of nothing but what is read and printed.
     pub(crate) book: Book<T, O>,
     // how many lines were answered
     pub(crate) answered: u32,

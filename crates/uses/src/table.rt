@@ -21,6 +21,10 @@ impl fmt::Display for UnknownUse {
 impl Error for UnknownUse {}
 
 // A use table (a lock mode compatibility matrix). A use (lock mode) is a 32-bit code.
+// Kept: the product has a use as a 32-bit code, so the questions are of codes and the codes of the
+// uses are constants; each table reads a code as a value of a type of its own.
+// Kept: the three tables answer by the same three lines. A generic helper would be passed the type,
+// both codes and the question, which is as long as the line that it would stand for.
 pub trait UseTable {
     // What the table means. Every answer is read off it, so an answer depends on the table and
     // the codes alone.
