@@ -1,7 +1,7 @@
 -- What a console has gathered of a piece, before the line that has begun comes to its end.
 use Rattle.std.proofs.Common.{◌≡◌, ℕ, ◌+◌, ◌<◌, Bool, true, false, not, cond, ltb, ◌==◌, Some, None, unwrap_or, List, [], ◌∷◌, ◌++◌, length, get_or, take, sym, refl, ap, ◌∙◌, subst, append_assoc, append-nil, arith}
 use Rattle.std.specs.List.{position_or_len}
-use Rattle.std.proofs.lemmas.List.{length-take, take_more}
+use Rattle.std.proofs.lemmas.List.{length-take, take_more, nil_from_length}
 use Rattle.std.proofs.lemmas.List.Sums.{prefix_len-le-length, passes_at_first}
 use Rattle.std.proofs.lemmas.Bool.Decides.{nat_tests}
 use Rattle.uses.specs.Relations.{Relations}
@@ -10,8 +10,7 @@ use Rattle.model.specs.declared.state.Detection.{Detection}
 use Rattle.book.specs.Held.{state}
 use Rattle.book.specs.declared.book.Book.{Book}
 use Rattle.transcripts.specs.Inputs.{Lines, more, Unbroken, Cut, with_rest, line_length}
-use Rattle.transcripts.specs.Transcript.{Answered, Transcript}
-use Rattle.transcripts.specs.Stands.{HasAnswered, HasRead, AnswersLine}
+use Rattle.transcripts.specs.Stands.{HasAnswered, HasRead, AnswersLine, EndsLines, Finishes}
 use Rattle.transcripts.specs.declared.console.Console.{Console}
 use Rattle.transcripts.proofs.Cutting.{cut_more, cut_end}
 use Rattle.transcripts.proofs.Standing.{bytes_kept}
@@ -93,18 +92,29 @@ read_line {T} {O} {tm} m p detection input before text first now next piece n g 
     joined_up = append_assoc input (take n piece) (10 ∷ []) ∙ ap (λ (xs : List ℕ). input ++ xs) (sym longer)
 
 -- the input has ended with a line that has begun
-pub finish_line : {T O : Type 0} {tm : _} (m : T → Relations) (p : O → Order) (detection : Detection) (input before text : List ℕ) (now next : Console T O tm) → 0 < length now.line → AnswersLine m p now next text → HasRead (m now.book.policy.table) (p now.book.policy.order) detection input before now → Transcript (m now.book.policy.table) (p now.book.policy.order) detection input (before ++ text)
-finish_line m p detection input before text now next some answers h = record {
+pub ends_line : {T O : Type 0} {tm : _} (m : T → Relations) (p : O → Order) (text : List ℕ) (now next : Console T O tm) → 0 < length now.line → AnswersLine m p now next text → EndsLines m p now next text
+ends_line m p text now next some answers detection ended rest before h = rw (is_line rest begun) (answers detection ended rest before h)
+  where
+    begun : 0 < length rest
+    begun = omega (arith, some, ap length h.kept, length-take 33 rest)
+
+    is_line : (rest : List ℕ) → 0 < length rest → with_rest ended rest ≡ more ended rest
+    is_line [] none = absurd (let e : ⊥ = omega (arith, none) in e)
+    is_line (b ∷ bs) _ = refl
+
+-- the input has ended with no line that has begun
+pub ends_nothing : {T O : Type 0} {tm : _} (m : T → Relations) (p : O → Order) (text : List ℕ) (now : Console T O tm) → length now.line ≡ 0 → text ≡ [] → EndsLines m p now now text
+ends_nothing m p text now none silent detection ended rest before h = rw (silent, append-nil before, empty) (rw empty at h)
+  where
+    empty : rest ≡ []
+    empty = nil_from_length rest (omega (arith, none, ap length h.kept, length-take 33 rest))
+
+-- where the last line has ended, what was printed is the transcript of what was read
+pub finished : {T O : Type 0} {tm : _} (m : T → Relations) (p : O → Order) (text : List ℕ) (now next : Console T O tm) → EndsLines m p now next text → Finishes m p now text
+finished m p text now next ends detection input before h = record {
   ended = h.ended;
   rest = h.rest;
   left = state next.book.tables;
   cut = h.cut;
-  answered = subst (λ (ls : Lines). Answered (m now.book.policy.table) (p now.book.policy.order) detection ls (before ++ text) (state next.book.tables)) (sym (is_line h.ended h.rest begun)) (answers detection h.ended h.rest before h.stands).answered;
+  answered = (ends detection h.ended h.rest before h.stands).answered;
 }
-  where
-    begun : 0 < length h.rest
-    begun = omega (arith, some, ap length h.stands.kept, length-take 33 h.rest)
-
-    is_line : (ls : Lines) (rest : List ℕ) → 0 < length rest → with_rest ls rest ≡ more ls rest
-    is_line ls [] none = absurd (let e : ⊥ = omega (arith, none) in e)
-    is_line ls (b ∷ bs) _ = refl

@@ -4,7 +4,7 @@ use Rattle.uses.specs.Relations.{Relations}
 use Rattle.model.specs.Recalling.{Order}
 use Rattle.model.specs.declared.state.Detection.{Detection}
 use Rattle.book.specs.Held.{state}
-use Rattle.transcripts.specs.Inputs.{Lines, more, count, Cut}
+use Rattle.transcripts.specs.Inputs.{Lines, more, count, Cut, with_rest}
 use Rattle.transcripts.specs.Transcript.{Answered, Transcript}
 use Rattle.transcripts.specs.declared.console.Console.{Console}
 
@@ -37,3 +37,8 @@ Reads u o before after bytes text =
 abbrev pub Finishes : {T O : Type 0} {tm : _} → (T → Relations) → (O → Order) → Console T O tm → List ℕ → Type 0
 Finishes u o console text =
     (detection : Detection) (input printed : List ℕ) → HasRead (u console.book.policy.table) (o console.book.policy.order) detection input printed console → Transcript (u console.book.policy.table) (o console.book.policy.order) detection input (printed ++ text)
+
+-- the line that had begun, if there was one, was answered by the text, and no line has begun
+abbrev pub EndsLines : {T O : Type 0} {tm : _} → (T → Relations) → (O → Order) → Console T O tm → Console T O tm → List ℕ → Type 0
+EndsLines u o before after text =
+    (detection : Detection) (ended : Lines) (rest printed : List ℕ) → HasAnswered (u before.book.policy.table) (o before.book.policy.order) detection ended rest printed before → HasAnswered (u before.book.policy.table) (o before.book.policy.order) detection (with_rest ended rest) [] (printed ++ text) after

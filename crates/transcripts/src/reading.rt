@@ -3,7 +3,7 @@ ghost use Rattle.std.specs.Prelude.{◌≡◌, ℕ, List, [], ◌++◌, ◌==◌
 ghost use Rattle.std.specs.List.{position_or_len};
 ghost use Rattle.model.specs.declared.state.Detection.{Detection as Detections};
 ghost use Rattle.transcripts.specs.Inputs.{Lines, count, line_length};
-ghost use Rattle.transcripts.specs.Stands.{HasAnswered, HasRead, Reads, Finishes};
+ghost use Rattle.transcripts.specs.Stands.{HasAnswered, HasRead, Reads, EndsLines, Finishes};
 
 use crate::answering::LAST;
 use crate::console::Console;
@@ -89,6 +89,7 @@ impl<T: UseTable, O: RecallOrder> Console<T, O> {
     // The input has ended: the line that has begun, if there is one, is answered.
     pub fn finish(&mut self, printed: &mut Printed)
         ensures read { Finishes T.meaning O.meaning self.old printed.new }
+        ensures left { EndsLines T.meaning O.meaning self.old self.new printed.new }
         ensures policy { self.new.book.policy ≡ self.old.book.policy }
     {
         printed.clear();
@@ -99,18 +100,14 @@ impl<T: UseTable, O: RecallOrder> Console<T, O> {
 
     // Takes a whole piece, and puts all that is printed behind what is in `out`. Where there is no
     // memory for that, the console is of no more use.
-    pub fn take_all(
-        &mut self,
-        piece: &[u8],
-        printed: &mut Printed,
-        out: &mut Vec<u8>,
-    ) -> Result<(), AllocError>
+    pub fn take_all(&mut self, piece: &[u8], out: &mut Vec<u8>) -> Result<(), AllocError>
         ensures read { OnOk result ((text : List ℕ) × (out.new.items ≡ out.old.items ++ text) × Reads T.meaning O.meaning self.old self.new piece.now text) }
         ensures policy { self.new.book.policy ≡ self.old.book.policy }
     {
+        let mut printed = Printed::new();
         let mut rest = piece;
         while !rest.is_empty() {
-            let taken = self.take(rest, printed);
+            let taken = self.take(rest, &mut printed);
             out.extend_from_slice(printed.text())?;
             rest = &rest[taken..];
         }

@@ -19,20 +19,20 @@ pub fn serve<T: UseTable, O: RecallOrder>(
     let mut input = rt.stdin();
     let mut output = rt.stdout();
     let mut block = [0; BLOCK];
-    let mut printed = Printed::new();
     let mut answers = Vec::new(rt.alloc());
     for _ in 0..u64::MAX {
         let count = input.read(&mut block)?;
         if count == 0 {
             break;
         }
-        console.take_all(&block[..count], &mut printed, &mut answers)?;
+        console.take_all(&block[..count], &mut answers)?;
         output.write_all(answers.as_slice())?;
         answers.clear();
         if console.has_stopped() {
             break;
         }
     }
+    let mut printed = Printed::new();
     console.finish(&mut printed);
     output.write_all(printed.text())
 }

@@ -22,11 +22,11 @@ pub fn transcript<T: UseTable + Drop, O: RecallOrder + Drop>(
     ensures { IfOk result (λ v. Transcript (T.meaning table) (O.meaning order) detection (all_bytes (map (λ p. p.now) pieces.now)) v.items) }
 {
     let mut console = Console::new(table, order, detection);
-    let mut printed = Printed::new();
     let mut out = Vec::new(alloc);
     for piece in pieces {
-        console.take_all(piece, &mut printed, &mut out)?;
+        console.take_all(piece, &mut out)?;
     }
+    let mut printed = Printed::new();
     console.finish(&mut printed);
     out.extend_from_slice(printed.text())?;
     Ok(out)
