@@ -1,5 +1,5 @@
 -- What three words choose.
-use Rattle.std.specs.Prelude.{◌≡◌, ℕ, List, Ok, Err, string_bytes, Result, ◌≢◌}
+use Rattle.std.specs.Prelude.{◌≡◌, ℕ, List, ◌++◌, Ok, Err, codes, string_bytes, Result, ◌≢◌}
 use Rattle.choices.specs.Names.{table_name, chosen_name, detection_name}
 use Rattle.choices.specs.declared.setting.Setting.{Setting}
 use Rattle.choices.specs.declared.setting.Wrong.{Wrong}
@@ -12,6 +12,19 @@ Nameless {X} name word = (x : X) → word ≢ name x
 -- the word is the name of such a thing
 abbrev pub Name : {X : Type 0} → (X → List ℕ) → List ℕ → Type 0
 Name {X} name word = (x : X) × (word ≡ name x)
+
+-- the word that is shown, in quotes
+abbrev pub quoted : List ℕ → List ℕ
+quoted word = codes "'" ++ (word ++ codes "'")
+
+-- what is wrong, as it is printed
+abbrev pub wrong_words : Wrong → List ℕ
+wrong_words Unreadable = codes "the arguments cannot be read as text"
+wrong_words Count = codes "there have to be three arguments"
+wrong_words (Detection word) = codes "DETECTION is continuous or periodic, not " ++ quoted (string_bytes word)
+wrong_words (Table word) = codes "TABLE is two, five or span, not " ++ quoted (string_bytes word)
+wrong_words (Order word) =
+    codes "ORDER is newest, lightest or fewest, or two of these with a comma between, not " ++ quoted (string_bytes word)
 
 -- of three words the first wrong one is told, with the word
 abbrev pub Faulty : List ℕ → List ℕ → List ℕ → Wrong → Type 0

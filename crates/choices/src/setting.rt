@@ -1,6 +1,6 @@
 // The setting of a book, by three words.
-ghost use Rattle.std.specs.Prelude.{string_bytes};
-ghost use Rattle.choices.specs.Settings.{Chosen};
+ghost use Rattle.std.specs.Prelude.{Some, string_bytes};
+ghost use Rattle.choices.specs.Settings.{Chosen, wrong_words};
 
 use crate::any_order::ChosenOrder;
 use crate::any_table::AnyTable;
@@ -28,6 +28,8 @@ pub enum Wrong {
 }
 
 impl fmt::Display for Wrong {
+    ghost output = { λ wrong. Some (wrong_words wrong) };
+
     fn fmt<W: fmt::Write>(&self, f: &mut fmt::Formatter<W>) -> fmt::Result {
         match self {
             Wrong::Unreadable => f.write_str("the arguments cannot be read as text"),

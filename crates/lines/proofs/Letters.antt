@@ -62,7 +62,7 @@ fields_go l p text (c, other, (rest, is, fields), same) =
     (numbers c, rest, as_many c ∙ ap fields_behind (sym there.0), fields, there.1)
 
 -- fields that go wrong: the line is of wrong form, one place later
-reads_wrong : {l : ℕ} {call : List ℕ → Call} → Spells l call → (m : ℕ) (text : List ℕ) (e : Fault) → m ≡ l → length text ≤ 31 → WrongFields (fields_behind l) text e → Reading (m ∷ text) (Err e)
+pub reads_wrong : {l : ℕ} {call : List ℕ → Call} → Spells l call → (m : ℕ) (text : List ℕ) (e : Fault) → m ≡ l → length text ≤ 31 → WrongFields (fields_behind l) text e → Reading (m ∷ text) (Err e)
 reads_wrong {l} {call} spells m text e same short (p, is, (goes, stops)) =
     let place : suc (suc p) ≡ 2 + p = omega arith in
     subst (λ (x : ℕ). Reading (x ∷ text) (Err e)) (sym same) (subst (λ (f : Fault). Reading (l ∷ text) (Err f)) (ap (λ (n : ℕ). WrongForm n) place ∙ sym is)

@@ -6,3 +6,5 @@ pub mod Letters
 pub mod Lengths
 pub mod NameLines
 pub mod OneReading
+pub mod Texts
+pub mod Worked

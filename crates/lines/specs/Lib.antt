@@ -4,3 +4,4 @@ pub mod Reading
 pub mod Fields
 pub mod Words
 pub mod Theorems
+pub mod Examples

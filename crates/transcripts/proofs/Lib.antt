@@ -7,3 +7,4 @@ pub mod OneCut
 pub mod OneAnswer
 pub mod Gathering
 pub mod Pieces
+pub mod Worked

@@ -3,3 +3,4 @@ pub mod Transcript
 pub mod Responses
 pub mod Stands
 pub mod Theorems
+pub mod Examples
