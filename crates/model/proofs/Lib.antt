@@ -2,6 +2,7 @@ pub mod Anys
 pub mod ClaimLists
 pub mod Graphs
 pub mod Worked
+pub mod LawWorked
 pub mod Numbers
 pub mod Victims
 pub mod Recalls

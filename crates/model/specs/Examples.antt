@@ -1,17 +1,21 @@
--- Worked examples: runs with every answer and report, and questions to a table of uses. They can be checked by hand.
-use Rattle.std.specs.Prelude.{◌≡◌, ℕ, Bool, true, false, ◌||◌, List, [], ◌∷◌, nat_le, nat_lt}
+-- Worked examples: runs with every answer and report, what a book answers after a run, reports, and charts of the tables of uses. They can be checked by hand.
+use Rattle.std.specs.Prelude.{◌≡◌, ℕ, Bool, true, false, if◌then◌else◌, ◌||◌, List, [], ◌∷◌, map, replicate, codes, Some, None, Ok, Err, Option, Result, nat_le, nat_lt}
 use Rattle.std.specs.List.{AllByRecursion}
 use Rattle.uses.specs.Relations.{Relations}
 use Rattle.uses.specs.TwoUses.{two_uses}
-use Rattle.uses.specs.FiveUses.{five_uses, IS, IX, S}
+use Rattle.uses.specs.FiveUses.{five_uses, IS, IX, S, SIX, X}
 use Rattle.uses.specs.Spans.{spans}
-use Rattle.orders.specs.Orders.{newest, lightest}
+use Rattle.orders.specs.Orders.{newest, lightest, fewest, pair}
 use Rattle.model.specs.State.{State, new}
 use Rattle.model.specs.Recalling.{Order}
-use Rattle.model.specs.Calls.{Answer, step, is_ok, is_granted, is_covered, is_waiting, is_recalled, is_refused}
+use Rattle.model.specs.Calls.{Answer, step, filled, is_ok, is_granted, is_covered, is_waiting, is_recalled, is_refused}
+use Rattle.model.specs.Questions.{condition_asked, waited_for, holders}
 use Rattle.model.specs.declared.call.Call.{Call}
-use Rattle.model.specs.declared.call.Call.TheVariants.{Open, Claim, Close, Acknowledge, Sweep}
+use Rattle.model.specs.declared.call.Call.TheVariants.{Open, Claim, Close, Withdraw, Acknowledge, Sweep}
 use Rattle.model.specs.declared.report.Named.{Named}
+use Rattle.model.specs.declared.report.Report.{Report}
+use Rattle.model.specs.declared.state.Condition.{Condition}
+use Rattle.model.specs.declared.state.Condition.TheVariants.{Free, Running, Waiting, Recalled}
 use Rattle.model.specs.declared.state.Detection.{Detection}
 use Rattle.model.specs.declared.state.Detection.TheVariants.{Continuous, Periodic}
 
@@ -22,10 +26,13 @@ pub record Line : Type 0 where
   pub recalls : List Named
   pub wakes : List Named
 
--- an example is a run from a new book, line by line, or answers of a table
+-- an example: a run from a new book, line by line; how dispatches stand; yes or no; reports; or a relation of uses as a chart
 pub data Example : Type 0 where
   played : Detection → Relations → Order → List Line → Example
+  stood : List (Result (Condition × Option ℕ) ℕ × Result (Condition × Option ℕ) ℕ) → Example
   asked : List (Bool × Bool) → Example
+  reported : List (Report × Report) → Example
+  charted : (ℕ → ℕ → Bool) → List ℕ → List (List ℕ) → Example
 
 -- each call gives what its line says
 abbrev pub Gives : Relations → Order → State → List Line → Type 0
@@ -36,10 +43,22 @@ Gives u o s (l ∷ ls) =
     × ((step u o s l.made).wakes ≡ l.wakes)
     × Gives u o (step u o s l.made).state ls
 
+-- a chart of a relation: a row for each use, with an x where the relation holds of it and the use of the column
+abbrev pub chart : (ℕ → ℕ → Bool) → List ℕ → List (List ℕ)
+chart r uses = map (λ a. map (λ b. if r a b then 120 else 46) uses) uses
+
 -- the example is right
 abbrev pub Right : Example → Type 0
 Right (played detection u o ls) = Gives u o (new detection) ls
+Right (stood answers) = AllByRecursion (λ a. a.0 ≡ a.1) answers
 Right (asked answers) = AllByRecursion (λ a. a.0 ≡ a.1) answers
+Right (reported reports) = AllByRecursion (λ r. r.0 ≡ r.1) reports
+Right (charted r uses rows) = chart r uses ≡ rows
+
+-- the state after calls
+abbrev pub after : Relations → Order → State → List Call → State
+after u o s [] = s
+after u o s (c ∷ cs) = after u o (step u o s c).state cs
 
 -- a call that recalls and wakes nobody
 abbrev pub quiet : Call → Answer → Line
@@ -50,11 +69,11 @@ infixl 30 ◌at◌
 abbrev pub ◌at◌ : ℕ → ℕ → Named
 d at section = record { dispatch = d; section = section }
 
--- a use of the two-use table
+-- the code of a look
 abbrev pub look : ℕ
 look = 0
 
--- the other use of the two-use table
+-- the code of a move
 abbrev pub move : ℕ
 move = 1
 
@@ -75,13 +94,17 @@ two_stations =
     ∷ record { made = Claim 2 10 move; answer = is_recalled; recalls = (2 at 10) ∷ []; wakes = (1 at 11) ∷ [] }
     ∷ quiet (Acknowledge 2) is_ok ∷ [])
 
--- two look at one section, and both then claim to move there
-abbrev pub double_upgrade : Example
-double_upgrade =
+-- two look at one section, and both then claim to move there; and what comes then
+abbrev pub double_upgrade_and : List Line → Example
+double_upgrade_and ls =
     played Continuous two_uses newest
     (quiet (Open 1 5) is_ok ∷ quiet (Open 2 5) is_ok ∷ quiet (Claim 1 7 look) is_granted ∷ quiet (Claim 2 7 look) is_granted
     ∷ quiet (Claim 1 7 move) is_waiting
-    ∷ record { made = Claim 2 7 move; answer = is_recalled; recalls = (2 at 7) ∷ []; wakes = (1 at 7) ∷ [] } ∷ [])
+    ∷ record { made = Claim 2 7 move; answer = is_recalled; recalls = (2 at 7) ∷ []; wakes = (1 at 7) ∷ [] } ∷ ls)
+
+-- the newer one is recalled, and the other goes on
+abbrev pub double_upgrade : Example
+double_upgrade = double_upgrade_and []
 
 -- a look waits behind a move that waits
 abbrev pub behind_a_waiting_claim : Example
@@ -147,11 +170,8 @@ order_at_opening = played Continuous two_uses newest (quiet (Open 1 5) is_ok ∷
 -- a recalled dispatch is refused until it is acknowledged, once, and may then be opened again
 abbrev pub recalled_and_again : Example
 recalled_and_again =
-    played Continuous two_uses newest
-    (quiet (Open 1 5) is_ok ∷ quiet (Open 2 5) is_ok ∷ quiet (Claim 1 7 look) is_granted ∷ quiet (Claim 2 7 look) is_granted
-    ∷ quiet (Claim 1 7 move) is_waiting
-    ∷ record { made = Claim 2 7 move; answer = is_recalled; recalls = (2 at 7) ∷ []; wakes = (1 at 7) ∷ [] }
-    ∷ quiet (Open 2 5) (is_refused 5) ∷ quiet (Acknowledge 2) is_ok ∷ quiet (Acknowledge 2) (is_refused 10) ∷ quiet (Open 2 5) is_ok ∷ [])
+    double_upgrade_and
+    (quiet (Open 2 5) (is_refused 5) ∷ quiet (Acknowledge 2) is_ok ∷ quiet (Acknowledge 2) (is_refused 10) ∷ quiet (Open 2 5) is_ok ∷ [])
 
 -- an order of another line: who holds at most one claim goes before who holds more
 abbrev pub one_or_more : Order
@@ -169,9 +189,111 @@ held_claims_only =
 abbrev pub span_questions : Example
 span_questions = asked ((spans.conflict 65541 132105, true) ∷ (spans.conflict 65541 132361, false) ∷ (spans.known 66821, false) ∷ [])
 
+-- the first calls of a cycle of three dispatches, of weights 9, 3 and 3, which hold one, two and three claims
+abbrev pub three_holding_and : List Line → List Line
+three_holding_and ls =
+    quiet (Open 1 9) is_ok ∷ quiet (Open 2 3) is_ok ∷ quiet (Open 3 3) is_ok ∷ quiet (Claim 1 10 move) is_granted
+    ∷ quiet (Claim 2 11 move) is_granted ∷ quiet (Claim 2 20 move) is_granted ∷ quiet (Claim 3 12 move) is_granted
+    ∷ quiet (Claim 3 21 move) is_granted ∷ quiet (Claim 3 22 move) is_granted ∷ quiet (Claim 1 11 move) is_waiting
+    ∷ quiet (Claim 2 12 move) is_waiting ∷ ls
+
+-- who holds the fewest claims is recalled
+abbrev pub fewest_of_three : Example
+fewest_of_three =
+    played Continuous two_uses fewest
+    (three_holding_and (record { made = Claim 3 10 move; answer = is_granted; recalls = (1 at 11) ∷ []; wakes = [] } ∷ []))
+
+-- of a pair of orders the second counts where the first ties: of the two lightest, who holds fewer is recalled
+abbrev pub fewest_of_the_lightest : Example
+fewest_of_the_lightest =
+    played Continuous two_uses (pair lightest fewest)
+    (three_holding_and (record { made = Claim 3 10 move; answer = is_waiting; recalls = (2 at 12) ∷ []; wakes = (1 at 11) ∷ [] } ∷ []))
+
+-- who waits can neither claim nor close, but may be withdrawn, which frees the number at once
+abbrev pub withdrawn : Example
+withdrawn =
+    played Continuous two_uses newest
+    (quiet (Open 1 5) is_ok ∷ quiet (Open 2 5) is_ok ∷ quiet (Claim 1 7 move) is_granted ∷ quiet (Claim 2 7 move) is_waiting
+    ∷ quiet (Claim 2 8 look) (is_refused 8) ∷ quiet (Close 2) (is_refused 8) ∷ quiet (Withdraw 2) is_ok ∷ quiet (Withdraw 2) (is_refused 7)
+    ∷ quiet (Open 2 5) is_ok ∷ quiet (Claim 2 7 look) is_waiting
+    ∷ record { made = Withdraw 1; answer = is_ok; recalls = []; wakes = (2 at 7) ∷ [] } ∷ quiet (Close 2) is_ok ∷ [])
+
+-- the numbers that are too high, and those that are not
+abbrev pub limits : Example
+limits =
+    played Continuous two_uses newest
+    (quiet (Open 64 1001) (is_refused 1) ∷ quiet (Open 63 1001) (is_refused 4) ∷ quiet (Open 63 1000) is_ok ∷ quiet (Claim 63 1024 move) (is_refused 2)
+    ∷ quiet (Claim 63 1023 2) (is_refused 3) ∷ quiet (Claim 63 1023 move) is_granted ∷ quiet (Close 62) (is_refused 7) ∷ [])
+
+-- 1 looks, 2 wants to move there and waits, 3 looks behind it and waits; 4 was recalled after 5 and it claimed each other's sections
+abbrev pub queue : State
+queue =
+    after two_uses newest (new Continuous)
+    (Open 1 5 ∷ Open 2 5 ∷ Open 3 5 ∷ Claim 1 7 look ∷ Claim 2 7 move ∷ Claim 3 7 look ∷ Open 5 5 ∷ Open 4 5 ∷ Claim 5 8 move ∷ Claim 4 9 move
+    ∷ Claim 5 9 move ∷ Claim 4 8 move ∷ [])
+
+-- how the dispatches of the queue stand
+abbrev pub standing_in_the_queue : Example
+standing_in_the_queue =
+    stood
+    ((condition_asked two_uses queue 1, Ok (Running, None)) ∷ (condition_asked two_uses queue 2, Ok (Waiting, Some 7))
+    ∷ (condition_asked two_uses queue 3, Ok (Waiting, Some 7)) ∷ (condition_asked two_uses queue 4, Ok (Recalled, None))
+    ∷ (condition_asked two_uses queue 5, Ok (Running, None)) ∷ (condition_asked two_uses queue 6, Ok (Free, None))
+    ∷ (condition_asked two_uses queue 64, Err 1) ∷ [])
+
+-- who waits for whom in the queue, and who holds section 7
+abbrev pub waiting_in_the_queue : Example
+waiting_in_the_queue =
+    asked
+    ((waited_for two_uses queue 2 1, true) ∷ (waited_for two_uses queue 3 2, true) ∷ (waited_for two_uses queue 3 1, false)
+    ∷ (waited_for two_uses queue 1 2, false) ∷ (waited_for two_uses queue 64 1, false) ∷ (holders two_uses queue 7 1, true)
+    ∷ (holders two_uses queue 7 2, false) ∷ (holders two_uses queue 7 3, false) ∷ (holders two_uses queue 8 5, true) ∷ (holders two_uses queue 1024 1, false) ∷ [])
+
+-- a report has the recalled first, then the woken, and then unused places
+abbrev pub full_report : Example
+full_report =
+    reported
+    ((
+      filled ((4 at 12) ∷ (2 at 10) ∷ []) ((1 at 11) ∷ []),
+      record { recalled = 2; woken = 1; dispatches = 4 ∷ 2 ∷ 1 ∷ replicate 61 255; sections = 12 ∷ 10 ∷ 11 ∷ replicate 61 65535 },
+    ) ∷ [])
+
+-- which of the two uses conflict
+abbrev pub two_conflicts : Example
+two_conflicts = charted two_uses.conflict (look ∷ move ∷ []) (codes ".x" ∷ codes "xx" ∷ [])
+
+-- which of the two uses covers which
+abbrev pub two_covers : Example
+two_covers = charted two_uses.cover (look ∷ move ∷ []) (codes "x." ∷ codes "xx" ∷ [])
+
+-- which of the five uses conflict
+abbrev pub five_conflicts : Example
+five_conflicts =
+    charted five_uses.conflict (IS ∷ IX ∷ S ∷ SIX ∷ X ∷ [])
+    (codes "....x" ∷ codes "..xxx" ∷ codes ".x.xx" ∷ codes ".xxxx" ∷ codes "xxxxx" ∷ [])
+
+-- which of the five uses covers which
+abbrev pub five_covers : Example
+five_covers =
+    charted five_uses.cover (IS ∷ IX ∷ S ∷ SIX ∷ X ∷ [])
+    (codes "x...." ∷ codes "xx..." ∷ codes "x.x.." ∷ codes "xxxx." ∷ codes "xxxxx" ∷ [])
+
+-- the codes of up 0 to 5, up 1 to 4, down 1 to 4 and works 0 to 5
+abbrev pub some_spans : List ℕ
+some_spans = 65541 ∷ 65796 ∷ 131332 ∷ 196613 ∷ []
+
+-- which of these spans conflict
+abbrev pub span_conflicts : Example
+span_conflicts = charted spans.conflict some_spans (codes "..xx" ∷ codes "..xx" ∷ codes "xx.x" ∷ codes "xxxx" ∷ [])
+
+-- which of these spans covers which
+abbrev pub span_covers : Example
+span_covers = charted spans.cover some_spans (codes "xx.." ∷ codes ".x.." ∷ codes "..x." ∷ codes "xxxx" ∷ [])
+
 -- the table of examples
 abbrev pub examples : List Example
 examples =
     sweep_of_a_new_book ∷ covered_claim ∷ two_stations ∷ double_upgrade ∷ behind_a_waiting_claim ∷ beside_a_waiting_claim ∷ lightest_of_three
     ∷ periodic_of_three ∷ second_blocker ∷ two_cycles ∷ order_of_refusals ∷ span_questions
-    ∷ order_at_opening ∷ recalled_and_again ∷ held_claims_only ∷ []
+    ∷ order_at_opening ∷ recalled_and_again ∷ held_claims_only ∷ fewest_of_three ∷ fewest_of_the_lightest ∷ withdrawn ∷ limits ∷ standing_in_the_queue
+    ∷ waiting_in_the_queue ∷ full_report ∷ two_conflicts ∷ two_covers ∷ five_conflicts ∷ five_covers ∷ span_conflicts ∷ span_covers ∷ []

@@ -10,4 +10,5 @@ pub mod Law
 pub mod Invariant
 pub mod Firsts
 pub mod Examples
+pub mod LawExamples
 pub mod Theorems

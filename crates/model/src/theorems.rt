@@ -1,6 +1,7 @@
 // The theorems. Each function does nothing: its contract is what is proved, for every use table and
 // every recall order that keeps its laws.
 ghost use Rattle.model.specs.Theorems.{LawOverRuns, InvariantKept, CycleTestExact, StepsLeadToOpen, FirstExact, ReportFits, RefusedWhenFull, NoNewStep, ExamplesRight};
+ghost use Rattle.model.specs.LawExamples.{LawExamplesRight};
 
 // Exclusion, progress and recall hold of every run of calls.
 pub fn law_over_runs()
@@ -41,4 +42,9 @@ pub fn unblocked_claim_adds_no_step()
 // The worked examples come out as they should.
 pub fn worked_examples()
     ensures { ExamplesRight }
+{}
+
+// The law says of given runs what it should: who was granted what, and where it is broken.
+pub fn law_examples()
+    ensures { LawExamplesRight }
 {}
