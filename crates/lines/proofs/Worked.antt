@@ -12,25 +12,49 @@ use Rattle.lines.proofs.Texts.{first, one_field, two_fields, three_fields}
 use Rattle.lines.proofs.Letters.{reads_wrong, reads_call, reads_long, reads_empty, reads_other, spells_open, spells_claim, spells_close, spells_withdraw, spells_acknowledge, spells_sweep}
 
 all_correct : AllByRecursion IsRead correct_lines
-all_correct =
-    (reads_call spells_open 79 (codes " 63 1000") (63 ∷ 1000 ∷ []) refl (omega arith) refl (two_fields (codes "63 1000") (codes "1000") (omega arith) refl (omega arith) refl),
-    (reads_call spells_claim 67 (codes " 1 1023 196871") (1 ∷ 1023 ∷ 196871 ∷ []) refl (omega arith) refl (three_fields (codes "1 1023 196871") (codes "1023 196871") (codes "196871") (omega arith) refl (omega arith) refl (omega arith) refl),
-    (reads_call spells_close 69 (codes " 0") (0 ∷ []) refl (omega arith) refl (one_field (codes "0") (omega arith) refl),
-    (reads_call spells_withdraw 87 (codes " 12") (12 ∷ []) refl (omega arith) refl (one_field (codes "12") (omega arith) refl),
-    (reads_call spells_acknowledge 65 (codes " 7") (7 ∷ []) refl (omega arith) refl (one_field (codes "7") (omega arith) refl),
-    (reads_call spells_sweep 83 [] [] refl (omega arith) refl refl, tt))))))
+all_correct = (
+  reads_call spells_open 79 (codes " 63 1000") (63 ∷ 1000 ∷ []) refl (omega arith) refl (two_fields (codes "63 1000") (codes "1000") (omega arith) refl (omega arith) refl),
+  (
+    reads_call spells_claim 67 (codes " 1 1023 196871") (1 ∷ 1023 ∷ 196871 ∷ []) refl (omega arith) refl (three_fields (codes "1 1023 196871") (codes "1023 196871") (codes "196871") (omega arith) refl (omega arith) refl (omega arith) refl),
+    (
+      reads_call spells_close 69 (codes " 0") (0 ∷ []) refl (omega arith) refl (one_field (codes "0") (omega arith) refl),
+      (
+        reads_call spells_withdraw 87 (codes " 12") (12 ∷ []) refl (omega arith) refl (one_field (codes "12") (omega arith) refl),
+        (
+          reads_call spells_acknowledge 65 (codes " 7") (7 ∷ []) refl (omega arith) refl (one_field (codes "7") (omega arith) refl),
+          (reads_call spells_sweep 83 [] [] refl (omega arith) refl refl, tt),
+        ),
+      ),
+    ),
+  ),
+)
 
 all_wrong : AllByRecursion IsRead wrong_lines
-all_wrong =
-    (reads_long _ _ refl (omega arith),
-    (reads_empty [] _ refl refl,
-    (reads_other 115 [] _ refl (omega arith) (λ e. omega (arith, e)) (λ e. omega (arith, e)) (λ e. omega (arith, e)) (λ e. omega (arith, e)) (λ e. omega (arith, e)) (λ e. omega (arith, e)),
-    (reads_wrong spells_open 79 (codes " 1") _ refl (omega arith) few_fields,
-    (reads_wrong spells_close 69 (codes " 1 2") _ refl (omega arith) more_fields,
-    (reads_wrong spells_open 79 (codes " 01 5") _ refl (omega arith) leading_zero,
-    (reads_wrong spells_withdraw 87 (codes " 1234567") _ refl (omega arith) seven_digits,
-    (reads_wrong spells_acknowledge 65 (codes "  1") _ refl (omega arith) two_spaces,
-    (reads_wrong spells_sweep 83 (codes " ") _ refl (omega arith) (came_end (codes " ") [] (codes " ") 2 0 _ (came_start (codes " ")) refl (omega arith) refl), tt)))))))))
+all_wrong = (
+  reads_long _ _ refl (omega arith),
+  (
+    reads_empty [] _ refl refl,
+    (
+      reads_other 115 [] _ refl (omega arith) (λ e. omega (arith, e)) (λ e. omega (arith, e)) (λ e. omega (arith, e)) (λ e. omega (arith, e)) (λ e. omega (arith, e)) (λ e. omega (arith, e)),
+      (
+        reads_wrong spells_open 79 (codes " 1") _ refl (omega arith) few_fields,
+        (
+          reads_wrong spells_close 69 (codes " 1 2") _ refl (omega arith) more_fields,
+          (
+            reads_wrong spells_open 79 (codes " 01 5") _ refl (omega arith) leading_zero,
+            (
+              reads_wrong spells_withdraw 87 (codes " 1234567") _ refl (omega arith) seven_digits,
+              (
+                reads_wrong spells_acknowledge 65 (codes "  1") _ refl (omega arith) two_spaces,
+                (reads_wrong spells_sweep 83 (codes " ") _ refl (omega arith) (came_end (codes " ") [] (codes " ") 2 0 _ (came_start (codes " ")) refl (omega arith) refl), tt),
+              ),
+            ),
+          ),
+        ),
+      ),
+    ),
+  ),
+)
   where
     few_fields : WrongFields 2 (codes " 1") (WrongForm 4)
     few_fields =

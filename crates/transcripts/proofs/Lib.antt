@@ -7,4 +7,5 @@ pub mod OneCut
 pub mod OneAnswer
 pub mod Gathering
 pub mod Pieces
+pub mod Served
 pub mod Worked

@@ -40,19 +40,24 @@ read_nothing m p c piece was = record {
   reads = λ detection input before h. rw (append-nil input, append-nil before) h;
 }
 
+-- what is read in two steps is read
+pub reads_on : {T O : Type 0} {tm : _} (m : T → Relations) (p : O → Order) (first now next : Console T O tm) (bytes others text then : List ℕ) → now.book.policy ≡ first.book.policy → Reads m p first now bytes text → Reads m p now next others then → Reads m p first next (bytes ++ others) (text ++ then)
+reads_on m p first now next bytes others text then policy one two detection input before h =
+    rw (← append_assoc input bytes others, ← append_assoc before text then) (here detection (input ++ bytes) (before ++ text) (one detection input before h))
+  where
+    here : (detection : Detection) (input before : List ℕ) → HasRead (m first.book.policy.table) (p first.book.policy.order) detection input before now → HasRead (m first.book.policy.table) (p first.book.policy.order) detection (input ++ others) (before ++ then) next
+    here = rw (← policy) two
+
 -- some bytes more
 pub read_more : {T O : Type 0} {tm : _} (m : T → Relations) (p : O → Order) (first now next : Console T O tm) (piece rest bytes left was out text all : List ℕ) → ReadPart m p first now piece rest was out → rest ≡ bytes ++ left → Reads m p now next bytes text → all ≡ out ++ text → next.book.policy ≡ now.book.policy → ReadPart m p first next piece left was all
-read_more {T} {O} m p first now next piece rest bytes left was out text all r splits more is policy = record {
+read_more m p first now next piece rest bytes left was out text all r splits more is policy = record {
   part = r.part ++ bytes;
   text = r.text ++ text;
   whole = r.whole ∙ (ap (λ (xs : List ℕ). r.part ++ xs) splits ∙ sym (append_assoc r.part bytes left));
   printed = is ∙ (ap (λ (xs : List ℕ). xs ++ text) r.printed ∙ append_assoc was r.text text);
   policy = policy ∙ r.policy;
-  reads = λ detection input before h. rw (← append_assoc input r.part bytes, ← append_assoc before r.text text) (here detection (input ++ r.part) (before ++ r.text) (r.reads detection input before h));
+  reads = reads_on m p first now next r.part bytes r.text text r.policy r.reads more;
 }
-  where
-    here : (detection : Detection) (input before : List ℕ) → HasRead (m first.book.policy.table) (p first.book.policy.order) detection input before now → HasRead (m first.book.policy.table) (p first.book.policy.order) detection (input ++ bytes) (before ++ text) next
-    here = rw (← r.policy) more
 
 -- a rest in two parts, as a slice shows the second
 pub two_parts : (n : ℕ) (rest : List ℕ) → rest ≡ take n rest ++ take (length rest - n) (drop n rest)

@@ -1,5 +1,5 @@
 -- The worked example is right.
-use Rattle.std.proofs.Common.{◌≡◌, ℕ, suc, ◌<◌, List, [], ◌∷◌, ◌++◌, codes, Ok, Err, refl, arith}
+use Rattle.std.proofs.Common.{ℕ, suc, ◌<◌, List, [], ◌∷◌, ◌++◌, codes, Ok, Err, refl, arith}
 use Rattle.std.specs.Fmt.{digits}
 use Rattle.uses.specs.TwoUses.{two_uses}
 use Rattle.orders.specs.Orders.{newest}
@@ -14,13 +14,13 @@ use Rattle.lines.specs.Faults.{fault_number, fault_place}
 use Rattle.lines.specs.Reading.{Reading}
 use Rattle.lines.specs.Words.{answer, fault, printed}
 use Rattle.lines.specs.declared.fault.Fault.{Fault}
-use Rattle.lines.specs.declared.fault.Fault.TheVariants.{NoLetter, WrongForm}
+use Rattle.lines.specs.declared.fault.Fault.TheVariants.{WrongForm}
 use Rattle.lines.proofs.Texts.{one_field, two_fields, three_fields, first}
 use Rattle.lines.proofs.Letters.{reads_call, reads_wrong, reads_empty, spells_open, spells_claim, spells_close, spells_acknowledge}
 use Rattle.lines.proofs.Coming.{came_end}
 use Rattle.transcripts.specs.Inputs.{Lines, none, more, count}
-use Rattle.transcripts.specs.Transcript.{Answered, nothing, then_line, is_read, faulty, carried, Transcript}
-use Rattle.transcripts.specs.Examples.{ExampleRight, text}
+use Rattle.transcripts.specs.Transcript.{Answered, nothing, then_line, is_read, faulty, carried}
+use Rattle.transcripts.specs.Examples.{ExampleRight}
 
 -- the lines have been answered, so far
 abbrev SoFar : Lines → List ℕ → State → Type 0

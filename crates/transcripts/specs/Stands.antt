@@ -1,5 +1,6 @@
 -- Where a console stands once an input, or a part of one, has been read. `u` is the meaning of the use table, `o` that of the recall order.
-use Rattle.std.specs.Prelude.{◌≡◌, ℕ, cond, List, [], ◌++◌, take, nat_lt}
+use Rattle.std.specs.Prelude.{◌≡◌, ℕ, cond, List, [], ◌++◌, take, Some, Option, nat_lt}
+use Rattle.std.specs.Io.KnownBytes.{Appends}
 use Rattle.uses.specs.Relations.{Relations}
 use Rattle.model.specs.Recalling.{Order}
 use Rattle.model.specs.declared.state.Detection.{Detection}
@@ -42,3 +43,8 @@ Finishes u o console text =
 abbrev pub EndsLines : {T O : Type 0} {tm : _} → (T → Relations) → (O → Order) → Console T O tm → Console T O tm → List ℕ → Type 0
 EndsLines u o before after text =
     (detection : Detection) (ended : Lines) (rest printed : List ℕ) → HasAnswered (u before.book.policy.table) (o before.book.policy.order) detection ended rest printed before → HasAnswered (u before.book.policy.table) (o before.book.policy.order) detection (with_rest ended rest) [] (printed ++ text) after
+
+-- where the bytes are known that a reader has left, what a writer is given for them goes on with what was printed before, to the transcript of the whole input
+abbrev pub Serves : {T O : Type 0} {tm : _} → (T → Relations) → (O → Order) → Console T O tm → Option (List ℕ) → Option (List ℕ) → Option (List ℕ) → Type 0
+Serves u o console left was is =
+    (detection : Detection) (input printed bytes : List ℕ) → HasRead (u console.book.policy.table) (o console.book.policy.order) detection input printed console → left ≡ Some bytes → (text : List ℕ) × Appends was is text × Transcript (u console.book.policy.table) (o console.book.policy.order) detection (input ++ bytes) (printed ++ text)
