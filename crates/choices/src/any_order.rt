@@ -1,4 +1,4 @@
-// One of the orders of the base, or a pair of them.
+// One of the three orders, or a pair of them.
 ghost use Rattle.choices.specs.Meanings.{order_meaning, chosen_meaning};
 ghost use Rattle.std.proofs.Common.{rules};
 ghost use Rattle.choices.specs.OrderLaws.{single_lawful, pair_lawful};

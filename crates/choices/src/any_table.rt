@@ -1,4 +1,4 @@
-// One of the tables of the base.
+// One of the three tables.
 ghost use Rattle.choices.specs.Meanings.{table_meaning};
 ghost use Rattle.choices.specs.declared.any_table.AnyTable.TheVariants.{Two, Five, Span};
 ghost use Rattle.uses.specs.SpanLaws.{spans_lawful};

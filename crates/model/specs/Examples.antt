@@ -171,7 +171,7 @@ order_at_opening = played Continuous two_uses newest (quiet (Open 1 5) is_ok ∷
 abbrev pub recalled_and_again : Example
 recalled_and_again =
     double_upgrade_and
-    (quiet (Open 2 5) (is_refused 5) ∷ quiet (Acknowledge 2) is_ok ∷ quiet (Acknowledge 2) (is_refused 10) ∷ quiet (Open 2 5) is_ok ∷ [])
+    (quiet (Open 2 1001) (is_refused 4) ∷ quiet (Open 2 5) (is_refused 5) ∷ quiet (Acknowledge 2) is_ok ∷ quiet (Acknowledge 2) (is_refused 10) ∷ quiet (Open 2 5) is_ok ∷ [])
 
 -- an order of another line: who holds at most one claim goes before who holds more
 abbrev pub one_or_more : Order

@@ -92,7 +92,7 @@ pub record Law (u : Relations) (o : Order) (r : Run) : Type 0 where
   pub exclusion : EachMoment (Exclusion u o) r
   -- progress: waits end
   pub progress : EachCall (Progress u o) r
-  -- recall: exactly when a cycle closes
+  -- recall: exactly when a claim that is entered closes a cycle, or a sweep finds one
   pub recall_when : EachCall (RecallWhen u o) r
   -- recall: the right dispatch
   pub recall_whom : EachCall (RecallWhom u o) r

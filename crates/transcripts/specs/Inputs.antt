@@ -1,6 +1,8 @@
 -- The lines of an input. Byte 10 ends a line; the last may lack it, and nothing after the last byte 10 is no line.
 use Rattle.std.specs.Prelude.{◌≡◌, ℕ, suc, false, cond, List, [], ◌∷◌, ◌++◌, ◌==◌}
 use Rattle.model.specs.Search.{member}
+-- the bytes of pieces, one behind another
+pub use Rattle.std.specs.List.{concat as all_bytes}
 
 -- lines in the order of their coming
 pub data Lines : Type 0 where
@@ -41,8 +43,3 @@ with_rest ls (b ∷ bs) = more ls (b ∷ bs)
 abbrev pub line_length : List ℕ → ℕ
 line_length [] = 0
 line_length (b ∷ bs) = cond (b == 10) 1 (suc (line_length bs))
-
--- the bytes of pieces, one behind another
-abbrev pub all_bytes : List (List ℕ) → List ℕ
-all_bytes [] = []
-all_bytes (p ∷ ps) = p ++ all_bytes ps

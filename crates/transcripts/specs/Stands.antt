@@ -9,7 +9,7 @@ use Rattle.transcripts.specs.Inputs.{Lines, more, count, Cut, with_rest}
 use Rattle.transcripts.specs.Transcript.{Answered, Transcript}
 use Rattle.transcripts.specs.declared.console.Console.{Console}
 
--- the console has answered the ended lines by the text, and keeps 33 bytes at most of the line that has begun
+-- the console has answered the ended lines by the text, counts them up to 1000000, and keeps the first 33 bytes of the line that has begun
 pub record HasAnswered {T O : Type 0} {tm : _} (u : Relations) (o : Order) (detection : Detection) (ended : Lines) (rest text : List ℕ) (c : Console T O tm) : Type 0 where
   pub answered : Answered u o detection ended text (state c.book.tables)
   pub counted : c.answered ≡ cond (nat_lt (count ended) 1000000) (count ended) 1000000

@@ -1,6 +1,6 @@
 #![tactic(auto)]
 
-// What a person would try on the book.
+// What a person would try on the book and on the console.
 #[cfg(test)]
 mod cycles_of_waits;
 #[cfg(test)]
@@ -9,6 +9,8 @@ mod questions;
 mod refusals;
 #[cfg(test)]
 mod room;
+#[cfg(test)]
+mod servings;
 #[cfg(test)]
 mod sessions;
 pub mod setting;
