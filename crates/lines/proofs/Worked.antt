@@ -86,4 +86,4 @@ unfolding printed digits
 all_printed = search
 
 pub all_right : ExamplesRight
-all_right = record { correct = all_correct; wrong = all_wrong; printing = all_printed }
+all_right = record { correct = all_correct; wrong = all_wrong; printing = all_printed; placing = search }

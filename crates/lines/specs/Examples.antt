@@ -1,4 +1,4 @@
--- Worked examples: lines with what each is read as, and outcomes with all that is printed for each. They can be checked by hand.
+-- Worked examples: lines with what each is read as, outcomes with all that is printed for each, and the places of faults. They can be checked by hand.
 use Rattle.std.specs.Prelude.{◌≡◌, ℕ, List, [], ◌∷◌, replicate, codes, Ok, Err, Result}
 use Rattle.std.specs.List.{AllByRecursion}
 use Rattle.model.specs.declared.call.Call.{Call}
@@ -7,6 +7,7 @@ use Rattle.model.specs.declared.report.Named.{Named}
 use Rattle.book.specs.declared.answers.Answer.{Answer}
 use Rattle.book.specs.declared.answers.Answer.TheVariants as answer
 use Rattle.book.specs.declared.answers.Refusal.TheVariants.{NumberTooHigh, SectionTooHigh, NotKnown, WeightTooHigh, IsRecalled, IsOpen, IsFree, IsWaiting, NoRoom, NotRecalled}
+use Rattle.lines.specs.Faults.{fault_place}
 use Rattle.lines.specs.Reading.{Reading}
 use Rattle.lines.specs.Words.{printed, reply}
 use Rattle.lines.specs.declared.fault.Fault.{Fault}
@@ -75,8 +76,16 @@ printings =
       text = codes "18 recalled\n18 recall 4 12\n18 recall 2 1023\n18 wake 1 0\n";
     } ∷ []
 
+-- faults and their places
+abbrev pub places : List (Fault × ℕ)
+places =
+    (TooManyLines, 1) ∷ (TooLong, 33) ∷ (NoLetter, 1) ∷ (WrongForm 4, 4) ∷ (Refused NumberTooHigh, 1) ∷ (Refused SectionTooHigh, 2)
+    ∷ (Refused NotKnown, 3) ∷ (Refused WeightTooHigh, 2) ∷ (Refused IsRecalled, 1) ∷ (Refused IsOpen, 1) ∷ (Refused IsFree, 1)
+    ∷ (Refused IsWaiting, 1) ∷ (Refused NoRoom, 2) ∷ (Refused NotRecalled, 1) ∷ []
+
 -- the worked examples are right
 pub record ExamplesRight : Type 0 where
   pub correct : AllByRecursion IsRead correct_lines
   pub wrong : AllByRecursion IsRead wrong_lines
   pub printing : AllByRecursion IsPrinted printings
+  pub placing : AllByRecursion (λ x. fault_place x.0 ≡ x.1) places

@@ -1,14 +1,14 @@
--- The worked example is right.
+-- The worked examples are right.
 use Rattle.std.proofs.Common.{ℕ, suc, ◌<◌, List, [], ◌∷◌, ◌++◌, codes, Ok, Err, refl, arith}
 use Rattle.std.specs.Fmt.{digits}
 use Rattle.uses.specs.TwoUses.{two_uses}
 use Rattle.orders.specs.Orders.{newest}
-use Rattle.model.specs.State.{State}
+use Rattle.model.specs.State.{State, new}
 use Rattle.model.specs.Graph.{closure}
 use Rattle.model.specs.Recalling.{on_cycles, recalling_at_most, recalling}
 use Rattle.model.specs.Calls.{step}
 use Rattle.model.specs.declared.call.Call.{Call}
-use Rattle.model.specs.declared.call.Call.TheVariants.{Open, Claim, Close, Acknowledge}
+use Rattle.model.specs.declared.call.Call.TheVariants.{Open, Claim, Close, Acknowledge, Sweep}
 use Rattle.model.specs.declared.state.Detection.TheVariants.{Continuous}
 use Rattle.lines.specs.Faults.{fault_number, fault_place}
 use Rattle.lines.specs.Reading.{Reading}
@@ -16,11 +16,11 @@ use Rattle.lines.specs.Words.{answer, fault, printed}
 use Rattle.lines.specs.declared.fault.Fault.{Fault}
 use Rattle.lines.specs.declared.fault.Fault.TheVariants.{WrongForm}
 use Rattle.lines.proofs.Texts.{one_field, two_fields, three_fields, first}
-use Rattle.lines.proofs.Letters.{reads_call, reads_wrong, reads_empty, spells_open, spells_claim, spells_close, spells_acknowledge}
+use Rattle.lines.proofs.Letters.{reads_call, reads_wrong, reads_empty, spells_open, spells_claim, spells_close, spells_acknowledge, spells_sweep}
 use Rattle.lines.proofs.Coming.{came_end}
 use Rattle.transcripts.specs.Inputs.{Lines, none, more, count}
-use Rattle.transcripts.specs.Transcript.{Answered, nothing, then_line, is_read, faulty, carried}
-use Rattle.transcripts.specs.Examples.{ExampleRight}
+use Rattle.transcripts.specs.Transcript.{Turn, is_read, is_past, too_many, faulty, carried, Answered, nothing, then_line, Transcript}
+use Rattle.transcripts.specs.Examples.{input, text, ExamplesRight}
 
 -- the lines have been answered, so far
 abbrev SoFar : Lines → List ℕ → State → Type 0
@@ -63,9 +63,9 @@ leading_zero = reads_wrong spells_close 69 (codes " 01") _ refl (omega arith) (c
 acknowledge_2 : Reading (codes "A 2") (Ok (Acknowledge 2))
 acknowledge_2 = reads_call spells_acknowledge 65 (codes " 2") (2 ∷ []) refl (omega arith) refl (one_field (codes "2") (omega arith) refl)
 
-pub example_right : ExampleRight
+session : Transcript two_uses newest Continuous input text
 unfolding step closure on_cycles recalling_at_most recalling printed digits
-example_right = record {
+session = record {
   ended = more (more (more (more (more (more (more (more (more none (codes "O 1 5")) (codes "O 2 5")) (codes "C 1 10 1")) (codes "C 2 11 1")) (codes "C 1 11 1")) (codes "C 2 10 1")) (codes "E 9")) (codes "E 01")) [];
   rest = codes "A 2";
   left = _;
@@ -82,3 +82,30 @@ example_right = record {
       (then_carried _ _ (omega arith) open_2
       (then_carried _ _ (omega arith) open_1 nothing)))))))));
 }
+
+sweeps : Reading (codes "S") (Ok Sweep)
+sweeps = reads_call spells_sweep 83 [] [] refl (omega arith) refl refl
+
+one_line : Transcript two_uses newest Continuous (codes "S\n") (codes "1 ok\n")
+unfolding step closure on_cycles recalling_at_most recalling printed digits
+one_line = record {
+  ended = more none (codes "S");
+  rest = [];
+  left = _;
+  cut = record { made = refl; lines_unbroken = (tt, refl); rest_unbroken = refl };
+  answered = then_carried _ _ (omega arith) sweeps nothing;
+}
+
+no_line : Transcript two_uses newest Continuous [] []
+no_line = record { ended = none; rest = []; left = _; cut = record { made = refl; lines_unbroken = tt; rest_unbroken = refl }; answered = nothing }
+
+last_but_one : Turn two_uses newest 999999 (new Continuous) (codes "S") (codes "999999 ok\n") (new Continuous)
+unfolding step closure on_cycles recalling_at_most recalling printed digits
+last_but_one = is_read (carried (omega arith) Sweep sweeps)
+
+last : Turn two_uses newest 1000000 (new Continuous) (codes "S") (codes "1000000 fault 44 at 1\n") (new Continuous)
+unfolding printed digits
+last = is_read (too_many refl)
+
+pub examples_right : ExamplesRight
+examples_right = record { session = session; one_line = one_line; no_line = no_line; last_but_one = last_but_one; last = last; past = is_past (omega arith) }
