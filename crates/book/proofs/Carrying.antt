@@ -4,7 +4,7 @@ use Rattle.uses.specs.Relations.{Relations}
 use Rattle.orders.specs.Laws.{OrderLaws}
 use Rattle.model.specs.State.{State, taken_out}
 use Rattle.model.specs.Recalling.{Order}
-use Rattle.model.specs.Calls.{Outcome, Effect, checks, refusal, accepted, effect, woken, with_wakes, step, filled, report, plain, is_ok}
+use Rattle.model.specs.Calls.{Outcome, Effect, checks, refusal, accepted, effect_by, woken, with_wakes, step, filled, report, plain, is_ok}
 use Rattle.model.specs.Invariant.{Invariant}
 use Rattle.model.specs.declared.call.Call.{Call}
 use Rattle.model.specs.declared.report.Report.{Report}
@@ -18,9 +18,9 @@ use Rattle.book.specs.declared.answers.Refusal.{Refusal}
 
 module _ (u : Relations) (o : Order) (s : State) (c : Call) where
   -- a call by the verdict of its checks
-  step_by : (v : Option ℕ) → refusal (checks u s c) ≡ v → step u o s c ≡ with_wakes u s (effect u o s c v)
+  step_by : (v : Option ℕ) → refusal (checks u s c) ≡ v → step u o s c ≡ with_wakes u s (effect_by u o s c v)
   unfolding step
-  step_by v h = ap (λ (x : Option ℕ). with_wakes u s (effect u o s c x)) h
+  step_by v h = ap (λ (x : Option ℕ). with_wakes u s (effect_by u o s c x)) h
 
   -- a call that is refused
   pub carried_refused : (e : Refusal) (r : Report) (t : State) → refusal (checks u s c) ≡ Some (number e) → r ≡ filled [] [] → t ≡ s → CarriedOut u o s c (Err e) r t

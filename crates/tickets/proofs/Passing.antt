@@ -3,7 +3,7 @@ use Rattle.std.proofs.Common.{◌≡◌, ℕ, Some, None, Ok, Err, Option, Resul
 use Rattle.uses.specs.Relations.{Relations}
 use Rattle.model.specs.State.{State}
 use Rattle.model.specs.Recalling.{Order}
-use Rattle.model.specs.Calls.{checks, refusal, accepted, effect, step, is_ok, is_refused}
+use Rattle.model.specs.Calls.{checks, refusal, accepted, effect_by, step, is_ok, is_refused}
 use Rattle.model.specs.declared.call.Call.{Call}
 use Rattle.model.specs.declared.report.Report.{Report}
 use Rattle.book.specs.Said.{number, said}
@@ -14,14 +14,14 @@ use Rattle.book.specs.declared.answers.Refusal.{Refusal}
 
 module _ (u : Relations) (o : Order) (s : State) (c : Call) (r : Report) (t : State) where
   -- the answer, by the verdict of the checks
-  answer_by : (v : Option ℕ) → refusal (checks u s c) ≡ v → (step u o s c).answer ≡ (effect u o s c v).answer
+  answer_by : (v : Option ℕ) → refusal (checks u s c) ≡ v → (step u o s c).answer ≡ (effect_by u o s c v).answer
   unfolding step
-  answer_by v h = ap (λ (x : Option ℕ). (effect u o s c x).answer) h
+  answer_by v h = ap (λ (x : Option ℕ). (effect_by u o s c x).answer) h
 
   -- the state left, by the verdict of the checks
-  pub left_by : (a : Result Answer Refusal) → CarriedOut u o s c a r t → (v : Option ℕ) → refusal (checks u s c) ≡ v → t ≡ (effect u o s c v).state
+  pub left_by : (a : Result Answer Refusal) → CarriedOut u o s c a r t → (v : Option ℕ) → refusal (checks u s c) ≡ v → t ≡ (effect_by u o s c v).state
   unfolding step
-  left_by a h v is = h.left ∙ ap (λ (x : Option ℕ). (effect u o s c x).state) is
+  left_by a h v is = h.left ∙ ap (λ (x : Option ℕ). (effect_by u o s c x).state) is
 
   -- no answer says what a refusal says
   never_refused : (a : Answer) (n : ℕ) {A : Type 0} {x y : A} → said (Ok a) ≡ is_refused n → x ≡ y

@@ -1,6 +1,6 @@
 #![tactic(auto)]
 
-// What a person would try on the book.
+// What a person would try on the book and on the console.
 #[cfg(test)]
 mod cycles_of_waits;
 #[cfg(test)]

@@ -20,7 +20,7 @@ returns-in_err-end g c =
     let e = c.in_err-end.field-0.0 in
     let r = c.end.new.report in
     let t = state c.end.new.book.tables in
-    let is = condition_told u s d small k c.in_ok-condition.field-0.waits_for c.in_ok-condition.ensures in
+    let is = condition_told u s d small k c.in_ok-condition.field-0.waiting_section c.in_ok-condition.ensures in
     let made = c.in_err-end.ensures.carried in
     let does = made_as u s d small o r t k is (Err e) made in
     let p = err_from_is_err_and c.from_residual-in_err-end.result c.from_residual-in_err-end.ensures.1 in
@@ -44,7 +44,7 @@ returns g c =
     let y = c.ending_of.result in
     let r = c.end.new.report in
     let t = state c.end.new.book.tables in
-    let is = condition_told u s d small k c.in_ok-condition.field-0.waits_for c.in_ok-condition.ensures in
+    let is = condition_told u s d small k c.in_ok-condition.field-0.waiting_section c.in_ok-condition.ensures in
     let made = answered_ended u s d small o r t k is c.in_ok-end.field-0 y c.ending_of.ensures c.in_ok-end.ensures.carried in
     let does = made_as u s d small o r t k is (booked y) made in
     record {
