@@ -7,10 +7,12 @@ use Rattle.model.specs.Calls.{checks, refusal, accepted, effect_by, step, is_ok,
 use Rattle.model.specs.declared.call.Call.{Call}
 use Rattle.model.specs.declared.report.Report.{Report}
 use Rattle.book.specs.Said.{number, said}
-use Rattle.book.specs.Carried.{CarriedOut}
+use Rattle.book.specs.Carried.{CarriedOut, Done}
+use Rattle.book.specs.Held.{state}
 use Rattle.book.specs.declared.answers.Answer.{Answer}
 use Rattle.book.specs.declared.answers.Answer.TheVariants as answer
 use Rattle.book.specs.declared.answers.Refusal.{Refusal}
+use Rattle.book.specs.declared.book.Book.{Book}
 
 module _ (u : Relations) (o : Order) (s : State) (c : Call) (r : Report) (t : State) where
   -- the answer, by the verdict of the checks
@@ -54,3 +56,10 @@ module _ (u : Relations) (o : Order) (s : State) (c : Call) (r : Report) (t : St
     reported = h.reported;
     left = h.left;
   }
+
+-- a call of a book whose one answer is ok was answered ok
+pub done_ok : {T O : Type 0} {tm : _} (uses : T → Relations) (orders : O → Order) (before after : Book T O tm) (c : Call) (r : Report) (a : Answer) → (accepted (uses before.policy.table) (orders before.policy.order) (state before.tables) c).answer ≡ is_ok → Done uses orders before c (Ok a) r after → Done uses orders before c (Ok answer.Ok) r after
+done_ok uses orders before after c r a plain does = record {
+  carried = answered_ok (uses before.policy.table) (orders before.policy.order) (state before.tables) c r (state after.tables) a plain does.carried;
+  policy = does.policy;
+}
