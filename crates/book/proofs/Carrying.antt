@@ -1,26 +1,29 @@
 -- From the parts of a call to what it promises.
-use Rattle.std.proofs.Common.{◌≡◌, ℕ, [], Some, None, Ok, Err, Option, Result, sym, refl, ap, ◌∙◌, subst}
+use Rattle.std.proofs.Common.{◌≡◌, ℕ, [], Some, None, Ok, Err, Option, Result, IsErrAnd, sym, refl, ap, ◌∙◌, subst}
+use Rattle.std.proofs.lemmas.Result.{err_from_is_err_and}
 use Rattle.uses.specs.Relations.{Relations}
 use Rattle.orders.specs.Laws.{OrderLaws}
 use Rattle.model.specs.State.{State, taken_out}
 use Rattle.model.specs.Recalling.{Order}
-use Rattle.model.specs.Calls.{Outcome, Effect, checks, refusal, accepted, effect, woken, with_wakes, step, filled, report, plain, is_ok}
+use Rattle.model.specs.Calls.{Outcome, Effect, checks, refusal, accepted, effect_by, woken, with_wakes, step, filled, report, plain, is_ok}
 use Rattle.model.specs.Invariant.{Invariant}
 use Rattle.model.specs.declared.call.Call.{Call}
 use Rattle.model.specs.declared.report.Report.{Report}
 use Rattle.model.proofs.Steps.{step_invariant}
 use Rattle.model.proofs.Wakes.{woken_same}
+use Rattle.book.specs.Held.{state}
 use Rattle.book.specs.Said.{number, said}
-use Rattle.book.specs.Carried.{CarriedOut}
+use Rattle.book.specs.Carried.{CarriedOut, Done}
 use Rattle.book.specs.declared.answers.Answer.{Answer}
 use Rattle.book.specs.declared.answers.Answer.TheVariants as answer
 use Rattle.book.specs.declared.answers.Refusal.{Refusal}
+use Rattle.book.specs.declared.book.Book.{Book}
 
 module _ (u : Relations) (o : Order) (s : State) (c : Call) where
   -- a call by the verdict of its checks
-  step_by : (v : Option ℕ) → refusal (checks u s c) ≡ v → step u o s c ≡ with_wakes u s (effect u o s c v)
+  step_by : (v : Option ℕ) → refusal (checks u s c) ≡ v → step u o s c ≡ with_wakes u s (effect_by u o s c v)
   unfolding step
-  step_by v h = ap (λ (x : Option ℕ). with_wakes u s (effect u o s c x)) h
+  step_by v h = ap (λ (x : Option ℕ). with_wakes u s (effect_by u o s c x)) h
 
   -- a call that is refused
   pub carried_refused : (e : Refusal) (r : Report) (t : State) → refusal (checks u s c) ≡ Some (number e) → r ≡ filled [] [] → t ≡ s → CarriedOut u o s c (Err e) r t
@@ -55,3 +58,18 @@ module _ (u : Relations) (o : Order) (s : State) (c : Call) where
 -- what is carried out keeps the invariant
 pub kept : (u : Relations) (o : Order) → OrderLaws o → (s : State) (c : Call) {a : Result Answer Refusal} {r : Report} {t : State} → Invariant u s → CarriedOut u o s c a r t → Invariant u t
 kept u o lawful s c i carried = subst (Invariant u) (sym carried.left) (step_invariant u o lawful s i c)
+
+module _ {T O : Type 0} {t : _} (uses : T → Relations) (orders : O → Order) (before : Book T O t) (c : Call) where
+  -- the call of the book is carried out, and leaves the state
+  abbrev pub CarriedOutIn : Result Answer Refusal → Report → State → Type 0
+  CarriedOutIn a r left = CarriedOut (uses before.policy.table) (orders before.policy.order) (state before.tables) c a r left
+
+  -- a call that is refused, as the exit of a `?` leaves it
+  pub done_refused : (after : Book T O t) (a : Result Answer Refusal) (e : Refusal) (r : Report) → IsErrAnd a (λ y. y ≡ e) → refusal (checks (uses before.policy.table) (state before.tables) c) ≡ Some (number e) → r ≡ filled [] [] → state after.tables ≡ state before.tables → after.policy ≡ before.policy → Done uses orders before c a r after
+  done_refused after a e r exits h is same stays =
+      let p = err_from_is_err_and a exits in
+      rw (p.1, p.2)
+      (record {
+        carried = carried_refused (uses before.policy.table) (orders before.policy.order) (state before.tables) c e r (state after.tables) h is same;
+        policy = stays;
+      })

@@ -8,7 +8,7 @@ use Rattle.model.specs.Search.{any}
 use Rattle.model.specs.Claims.{blocks, dispatch_waits, covered}
 use Rattle.model.specs.State.{State, is_open, entered}
 use Rattle.model.specs.Recalling.{Order}
-use Rattle.model.specs.Calls.{Check, Effect, number_too_high, section_too_high, unknown_use, recalled_already, not_open, waiting_already, no_room, checks, refusal, plain, claimed, after_entry, is_covered, woken, filled}
+use Rattle.model.specs.Calls.{Check, Effect, number_too_high, section_too_high, unknown_use, recalled_already, free_already, waiting_already, no_room, checks, refusal, plain, claimed, after_entry, is_covered, woken, filled}
 use Rattle.model.specs.Invariant.{NoCycle}
 use Rattle.model.specs.declared.call.Call.TheVariants as call
 use Rattle.model.specs.declared.report.Report.{Report}
@@ -28,7 +28,7 @@ use Rattle.book.proofs.Steady.{Steady, steady_entered, steady_grounded, steady_f
 
 -- the checks of a claim before the one for room
 abbrev pub first_checks : Relations → State → ℕ → ℕ → ℕ → List Check
-first_checks u s d section mode = number_too_high d ∷ section_too_high section ∷ unknown_use u mode ∷ recalled_already s d ∷ not_open s d ∷ waiting_already u s d ∷ []
+first_checks u s d section mode = number_too_high d ∷ section_too_high section ∷ unknown_use u mode ∷ recalled_already s d ∷ free_already s d ∷ waiting_already u s d ∷ []
 
 -- who passes the first checks is open
 pub passed_open : (u : Relations) (s : State) (d section mode : ℕ) → refusal (first_checks u s d section mode) ≡ None → is_open s d ≡ true

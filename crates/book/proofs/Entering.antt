@@ -16,7 +16,7 @@ use Rattle.model.specs.declared.state.Detection.TheVariants.{Continuous, Periodi
 use Rattle.model.proofs.Graphs.{leads_wider}
 use Rattle.model.proofs.ClaimLists.{dispatch_waits_push, no_edge}
 use Rattle.model.proofs.Numbers.{open_closed}
-use Rattle.model.proofs.Recalls.{Grounded, Recalls, done, next, recalls, in_cycles, first_some}
+use Rattle.model.proofs.Recalls.{Grounded, Recalls, done, next, recalling_recalls, in_cycles, first_some}
 use Rattle.model.proofs.Turns.{turn_none, recalling_turns}
 
 -- checks that pass leave the verdict to those that follow
@@ -45,7 +45,7 @@ named_closed u o d {s} {t} (next {n = n} {ns = ns} cycle best rest) here =
 -- the answer to a claimant, by whether it is still open
 pub answer_by_open : (u : Relations) (o : Order) → OrderLaws o → (t : State) → Grounded t → (d : ℕ) → is_open t d ≡ true → claim_answer u d (recalling u o t) ≡ cond (is_open (recalling u o t).state d) (cond (dispatch_waits u (recalling u o t).state.claims d) is_waiting is_granted) is_recalled
 answer_by_open u o lawful t g d here =
-    let named_so = named_closed u o d (recalls u o lawful t g) here in
+    let named_so = named_closed u o d (recalling_recalls u o lawful t g) here in
     grind (arith, named_so)
 
 module _ (u : Relations) (o : Order) (lawful : OrderLaws o) where
@@ -81,9 +81,9 @@ module _ (u : Relations) (o : Order) (lawful : OrderLaws o) where
     -- a claim that is blocked waits in a periodic book
     pub blocked_does : any (λ b. blocks u b c) s.claims ≡ true → claimed u c.dispatch (nobody (entered c s)) ≡ record { state = entered c s; answer = is_waiting; recalls = [] }
     unfolding by_waiting
-    blocked_does taken =
+    blocked_does blocked =
         let pushed = dispatch_waits_push u s.claims c c.dispatch in
-        let waits : dispatch_waits u (s.claims ++ c ∷ []) c.dispatch ≡ true = pushed ∙ grind (arith, nat_tests, taken) in
+        let waits : dispatch_waits u (s.claims ++ c ∷ []) c.dispatch ≡ true = pushed ∙ grind (arith, nat_tests, blocked) in
         ap by_waiting waits
 
 -- how a claimant stands, by a table and a state

@@ -8,7 +8,7 @@ use Rattle.model.specs.Recalling.{Order, Recalled, named, nobody, first, on_cycl
 use Rattle.model.specs.Calls.{filled}
 use Rattle.model.specs.declared.report.Named.{Named}
 use Rattle.model.specs.declared.report.Report.{Report}
-use Rattle.model.proofs.Recalls.{Grounded, recalls}
+use Rattle.model.proofs.Recalls.{Grounded, recalling_recalls}
 use Rattle.model.proofs.Exact.{recalls_shorten}
 use Rattle.book.proofs.Steady.{Steady, steady_few, steady_grounded}
 use Rattle.model.proofs.Turns.{recalling_turns, turn_none, turn_some, turn_last}
@@ -54,8 +54,8 @@ module _ (u : Relations) (o : Order) where
     pub report : r ≡ filled (recalling u o s₀).recalls []
 
   -- when what is left to do is nothing
-  came : (lawful : OrderLaws o) (s₀ s : State) (turn : ℕ) (r : Report) → Grounded s₀ → length s₀.opened ≤ 64 → Turned u o s₀ s turn r → recalling_at_most (64 - turn) u o s ≡ nobody s → Came s₀ s r
-  came lawful s₀ s turn r g few t none =
+  came_with_nothing_left : (lawful : OrderLaws o) (s₀ s : State) (turn : ℕ) (r : Report) → Grounded s₀ → length s₀.opened ≤ 64 → Turned u o s₀ s turn r → recalling_at_most (64 - turn) u o s ≡ nobody s → Came s₀ s r
+  came_with_nothing_left lawful s₀ s turn r g few t none =
       let all = recalling_turns u o lawful 64 s₀ g few in
       record {
         state = sym (ap (λ (x : Recalled). x.state) all ∙ (t.state ∙ ap (λ (x : Recalled). x.state) none));
@@ -69,18 +69,18 @@ module _ (u : Relations) (o : Order) where
   pub came_early : (lawful : OrderLaws o) (s₀ s : State) (turn : ℕ) (r : Report) → Grounded s₀ → length s₀.opened ≤ 64 → turn < 64 → Turned u o s₀ s turn r → first u o s (on_cycles u s) ≡ None → Came s₀ s r
   came_early lawful s₀ s turn r g few low t e =
       let fuel : 64 - turn ≡ suc (64 - (turn + 1)) = omega arith in
-      came lawful s₀ s turn r g few t (ap (λ k. recalling_at_most k u o s) fuel ∙ turn_none u o (64 - (turn + 1)) s e)
+      came_with_nothing_left lawful s₀ s turn r g few t (ap (λ k. recalling_at_most k u o s) fuel ∙ turn_none u o (64 - (turn + 1)) s e)
 
   -- all turns are taken
   pub came_late : (lawful : OrderLaws o) (s₀ s : State) (turn : ℕ) (r : Report) → Grounded s₀ → length s₀.opened ≤ 64 → 64 ≤ turn → Turned u o s₀ s turn r → Came s₀ s r
   came_late lawful s₀ s turn r g few high t =
       let fuel : 64 - turn ≡ 0 = omega arith in
-      came lawful s₀ s turn r g few t (ap (λ k. recalling_at_most k u o s) fuel ∙ turn_last u o s)
+      came_with_nothing_left lawful s₀ s turn r g few t (ap (λ k. recalling_at_most k u o s) fuel ∙ turn_last u o s)
 
 -- after recalling there is room for all who are still open
 pub recalled_room : (u : Relations) (o : Order) → OrderLaws o → (s t : State) (r : Report) → Steady s.opened s.claims → t ≡ (recalling u o s).state → r ≡ filled (recalling u o s).recalls [] → r.recalled + length t.opened ≤ 64
 recalled_room u o lawful s t r w same is =
-    let shorter = recalls_shorten u o (recalls u o lawful s (steady_grounded s w)) (steady_grounded s w) in
+    let shorter = recalls_shorten u o (recalling_recalls u o lawful s (steady_grounded s w)) (steady_grounded s w) in
     let count = ap (λ (x : Report). x.recalled) is in
     let long = ap (λ (x : State). length x.opened) same in
     omega (arith, shorter, count, long, steady_few s w)

@@ -12,6 +12,7 @@ use Rattle.model.specs.declared.report.Named.{Named}
 use Rattle.model.specs.declared.report.Report.{Report}
 use Rattle.model.specs.declared.state.Opened.{Opened}
 use Rattle.model.proofs.ClaimLists.{waiting_section_some}
+use Rattle.book.proofs.Turning.{name}
 use Rattle.book.proofs.Victims.{numbers_more}
 
 module _ (u : Relations) (s t : State) (d : ℕ) (rs ws : List Named) where
@@ -40,11 +41,8 @@ module _ (u : Relations) (s t : State) (d : ℕ) (rs ws : List Named) where
       let waited : dispatch_waits u s.claims d ≡ true = sym (waiting_section_some u s.claims d) ∙ ap (λ (v : Option ℕ). is_some v) some in
       let runs : dispatch_waits u t.claims d ≡ false = sym (waiting_section_some u t.claims d) ∙ none in
       let in_it : (dispatch_waits u s.claims d && not (dispatch_waits u t.claims d)) ≡ true = grind (arith, waited, runs) in
-      let who : ◌≡◌ {A = Named} (record { dispatch = d; section = section }) (named u s d) = sym (ap (λ (v : Option ℕ). one d (unwrap_or v 65535)) some) in
+      let who : ◌≡◌ {A = Named} (record { dispatch = d; section = section }) (named u s d) = sym (ap (λ (v : Option ℕ). name d (unwrap_or v 65535)) some) in
       is ∙ (ap (λ (n : Named). filled rs (ws ++ n ∷ [])) who ∙ ap (filled rs) (sym (ap (λ (b : Bool). ws ++ cond b (named u s d ∷ []) []) in_it)))
-    where
-      one : ℕ → ℕ → Named
-      one a b = record { dispatch = a; section = b }
 
 -- an option that is no value is none
 pub none_from : (v : Option ℕ) → ((x : ℕ) → v ≡ Some x → ⊥) → v ≡ None

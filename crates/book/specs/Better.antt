@@ -4,7 +4,7 @@ use Rattle.uses.specs.Relations.{Relations}
 use Rattle.model.specs.State.{State}
 use Rattle.model.specs.Recalling.{Order, summary}
 
--- a dispatch that was opened later, or the best so far
+-- the dispatch, where there is no best so far or it goes no later; else the best so far
 abbrev pub better : Relations → Order → State → ℕ → Option ℕ → ℕ
 better u o s d None = d
 better u o s d (Some b) = cond (o (summary u s d) (summary u s b)) d b

@@ -11,6 +11,7 @@ use uses::table::UseTable;
 pub struct Book<T: UseTable, O> {
     pub(crate) policy: Policy<T, O>,
     pub(crate) tables: Tables,
-    // what holds at every moment of every run: in a continuous book no cycle of waits stands
+    // what holds at every moment of every run: the tables are well formed, and in a continuous book no
+    // cycle of waits stands
     ghost kept: { Invariant (T.meaning policy.table) (state tables) },
 }

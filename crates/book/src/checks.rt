@@ -1,7 +1,7 @@
 // The checks of the calls, in the order of their numbers.
 ghost use Rattle.std.specs.Prelude.{◌≡◌, [], ◌∷◌, length, nat_le};
 ghost use Rattle.model.specs.Claims.{dispatch_waits};
-ghost use Rattle.model.specs.Calls.{refusal, number_too_high, section_too_high, unknown_use, weight_too_high, recalled_already, open_already, not_open, waiting_already, not_recalled};
+ghost use Rattle.model.specs.Calls.{refusal, number_too_high, section_too_high, unknown_use, weight_too_high, recalled_already, open_already, free_already, waiting_already, not_recalled};
 ghost use Rattle.book.specs.Held.{state};
 ghost use Rattle.book.specs.Verdict.{Verdict};
 
@@ -77,7 +77,7 @@ impl Tables {
 
     // Is the dispatch open?
     pub(crate) fn check_withdraw(&self, dispatch: u32) -> Result<u8, Refusal>
-        ensures { Verdict result (refusal (number_too_high dispatch ∷ recalled_already (state self.now) dispatch ∷ not_open (state self.now) dispatch ∷ [])) (λ n. n ≡ dispatch) }
+        ensures { Verdict result (refusal (number_too_high dispatch ∷ recalled_already (state self.now) dispatch ∷ free_already (state self.now) dispatch ∷ [])) (λ n. n ≡ dispatch) }
     {
         let number = number(dispatch)?;
         if self.recalled.contains(number) {
@@ -91,7 +91,7 @@ impl Tables {
 
     // Is the dispatch open, and does it run?
     pub(crate) fn check_close<T: UseTable>(&self, table: &T, dispatch: u32) -> Result<u8, Refusal>
-        ensures { Verdict result (refusal (number_too_high dispatch ∷ recalled_already (state self.now) dispatch ∷ not_open (state self.now) dispatch ∷ waiting_already (T.meaning table.now) (state self.now) dispatch ∷ [])) (λ n. n ≡ dispatch) }
+        ensures { Verdict result (refusal (number_too_high dispatch ∷ recalled_already (state self.now) dispatch ∷ free_already (state self.now) dispatch ∷ waiting_already (T.meaning table.now) (state self.now) dispatch ∷ [])) (λ n. n ≡ dispatch) }
     {
         let number = self.check_withdraw(dispatch)?;
         if self.waits(table, number) {
@@ -108,7 +108,7 @@ impl Tables {
         section: u32,
         mode: u32,
     ) -> Result<Claim, Refusal>
-        ensures { Verdict result (refusal (number_too_high dispatch ∷ section_too_high section ∷ unknown_use (T.meaning table.now) mode ∷ recalled_already (state self.now) dispatch ∷ not_open (state self.now) dispatch ∷ waiting_already (T.meaning table.now) (state self.now) dispatch ∷ [])) (λ c. c ≡ record { dispatch = dispatch; section = section; mode = mode }) }
+        ensures { Verdict result (refusal (number_too_high dispatch ∷ section_too_high section ∷ unknown_use (T.meaning table.now) mode ∷ recalled_already (state self.now) dispatch ∷ free_already (state self.now) dispatch ∷ waiting_already (T.meaning table.now) (state self.now) dispatch ∷ [])) (λ c. c ≡ record { dispatch = dispatch; section = section; mode = mode }) }
     {
         let claimant = number(dispatch)?;
         let section = section_number(section)?;

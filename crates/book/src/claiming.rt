@@ -60,7 +60,7 @@ impl Tables {
     ) -> Answer
         requires here { is_open (state self.old) claim.dispatch ≡ true }
         requires runs { dispatch_waits (T.meaning policy.now.table) (state self.old).claims claim.dispatch ≡ false }
-        requires taken { any (λ b. blocks (T.meaning policy.now.table) b claim) (state self.old).claims ≡ true }
+        requires blocked { any (λ b. blocks (T.meaning policy.now.table) b claim) (state self.old).claims ≡ true }
         requires room { length (state self.old).claims < 512 }
         ensures { EntersWith (T.meaning policy.now.table) (state self.old) claim (after_entry (T.meaning policy.now.table) (O.meaning policy.now.order) (state self.old).detection (entered claim (state self.old))) result report.new (state self.new) }
     {

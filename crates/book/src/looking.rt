@@ -1,5 +1,5 @@
 // Looking for cycles of waits, and for who goes first of those on one.
-ghost use Rattle.std.specs.Prelude.{◌≡◌, ℕ, ◌<◌, Some, filter};
+ghost use Rattle.std.specs.Prelude.{◌≡◌, ℕ, filter};
 ghost use Rattle.marks.specs.Marks.{marked};
 ghost use Rattle.cycles.specs.Rows.{relation};
 ghost use Rattle.model.specs.Claims.{waits_for};
@@ -38,7 +38,7 @@ impl Tables {
         }
     }
 
-    // The dispatch, if it goes no later than the best so far.
+    // The dispatch, if there is no best so far or it goes no later; else the best so far.
     fn better<T: UseTable, O: RecallOrder>(
         &self,
         policy: &Policy<T, O>,

@@ -1,7 +1,7 @@
 // The three questions.
 ghost use Rattle.std.specs.Prelude.{◌≡◌, [], ◌∷◌};
 ghost use Rattle.marks.specs.Marks.{marked};
-ghost use Rattle.model.specs.Questions.{condition as condition_of_lem, waited_for as waited_for_by, holders as holders_of};
+ghost use Rattle.model.specs.Questions.{condition as model_condition, waited_for as waited_for_by, holders as holders_of};
 ghost use Rattle.model.specs.Calls.{refusal, number_too_high, section_too_high};
 ghost use Rattle.book.specs.Asked.{condition_answered};
 ghost use Rattle.book.specs.Held.{state};
@@ -17,14 +17,14 @@ use uses::table::UseTable;
 
 // How a dispatch stands, and the section for which it waits, if it waits.
 #[derive(Clone, Copy, Debug, PartialEq, Eq)]
-pub struct Standing {
+pub struct Status {
     pub condition: Condition,
-    pub waits_for: Option<u16>,
+    pub waiting_section: Option<u16>,
 }
 
 impl Tables {
     fn condition_of<T: UseTable>(&self, table: &T, dispatch: u8) -> Condition
-        ensures { result ≡ condition_of_lem (T.meaning table.now) (state self.now) dispatch }
+        ensures { result ≡ model_condition (T.meaning table.now) (state self.now) dispatch }
     {
         if self.recalled.contains(dispatch) {
             Condition::Recalled
@@ -40,14 +40,14 @@ impl Tables {
 
 impl<T: UseTable, O> Book<T, O> {
     // How does the dispatch stand, and for which section does it wait? Refused by 1.
-    pub fn condition(&self, dispatch: u32) -> Result<Standing, Refusal>
+    pub fn condition(&self, dispatch: u32) -> Result<Status, Refusal>
         ensures { condition_answered (T.meaning self.now.policy.table) (state self.now.tables) dispatch result }
     {
         let number = number(dispatch)?;
         let table = &self.policy.table;
-        Ok(Standing {
+        Ok(Status {
             condition: self.tables.condition_of(table, number),
-            waits_for: self.tables.claims.waiting_section(table, number),
+            waiting_section: self.tables.claims.waiting_section(table, number),
         })
     }
 

@@ -1,6 +1,6 @@
 // Naming who is woken.
-ghost use Rattle.std.specs.Prelude.{◌≡◌, ℕ, ◌+◌, ◌<◌, ◌≤◌, not, ◌&&◌, List, [], ◌∷◌, ◌++◌, length, if◌then◌else◌, None};
-ghost use Rattle.model.specs.Claims.{dispatch_waits, waiting_section};
+ghost use Rattle.std.specs.Prelude.{◌≡◌, ◌+◌, ◌<◌, ◌≤◌, not, ◌&&◌, List, [], ◌∷◌, ◌++◌, length, if◌then◌else◌};
+ghost use Rattle.model.specs.Claims.{dispatch_waits};
 ghost use Rattle.model.specs.State.{State, taken_out};
 ghost use Rattle.model.specs.Recalling.{named};
 ghost use Rattle.model.specs.Calls.{filled, woken};

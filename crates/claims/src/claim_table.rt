@@ -2,7 +2,7 @@
 // it as the list of its claims.
 ghost use Rattle.std.specs.Prelude.{◌≡◌, ◌<◌, ◌≤◌, [], ◌∷◌, ◌++◌, length};
 ghost use Rattle.marks.specs.Marks.{marked};
-ghost use Rattle.model.specs.Claims.{without, covered, blocks, waiting_section, held as held_claims, waits_for, holds, placed};
+ghost use Rattle.model.specs.Claims.{without, covered, blocks, waiting_section, held as held_claims, waits_for, holds, placed_claims};
 ghost use Rattle.model.specs.Search.{any};
 
 use crate::blocking;
@@ -133,7 +133,7 @@ impl ClaimTable {
 
     // The claims in their places, in order.
     fn places(&self) -> Places<'_>
-        ensures value { result ≡ placed self.now }
+        ensures value { result ≡ placed_claims self.now }
         ensures fits { length result ≤ 512 }
     {
         Places {

@@ -6,14 +6,14 @@ use Rattle.std.proofs.lemmas.Fmt.{length-decimal-le}
 use Rattle.model.specs.Calls.{is_refused}
 use Rattle.book.specs.declared.answers.Answer.{Answer}
 use Rattle.book.specs.declared.answers.Answer.TheVariants.{Ok, Granted, Covered, Waits, Recalled}
-use Rattle.lines.specs.Words.{words, answer, fault, reply, printed_line, named_words, named_lines, names}
+use Rattle.lines.specs.Words.{words, answer, fault, reply_to, printed_line, named_words, named_lines, names}
 
 -- a number of 8 bits has at most 3 digits
 digits_3 : (n : ℕ) → n < 256 → length (decimal n) ≤ 3
 digits_3 n h = length-decimal-le 3 n (omega arith) (omega arith) (omega arith)
 
 -- the words of an answer
-pub answer_short : (a : Answer) → length (words (reply (result.Ok a))) ≤ 16
+pub answer_short : (a : Answer) → length (words (reply_to (result.Ok a))) ≤ 16
 answer_short Ok = lit≤ tt
 answer_short Granted = lit≤ tt
 answer_short Covered = lit≤ tt

@@ -46,9 +46,9 @@ fault_reply UseTable number place = answer (is_refused number)
 fault_reply Book number place = answer (is_refused number)
 
 -- the reply that an outcome is
-abbrev pub reply : Result Answer Fault → Reply
-reply (result.Ok a) = answer (said (result.Ok a))
-reply (result.Err f) = fault_reply (fault_layer f) (fault_number f) (fault_place f)
+abbrev pub reply_to : Result Answer Fault → Reply
+reply_to (result.Ok a) = answer (said (result.Ok a))
+reply_to (result.Err f) = fault_reply (fault_layer f) (fault_number f) (fault_place f)
 
 -- numbers beside sections
 abbrev pub names : List ℕ → List ℕ → List Named

@@ -1,7 +1,7 @@
 // Faults, as they pass up to the console.
 ghost use Rattle.std.specs.Prelude.{◌≡◌, Err, Some};
 ghost use Rattle.lines.specs.Faults.{field, layer as layer_of, fault_number, fault_place, fault_layer};
-ghost use Rattle.lines.specs.Words.{words, reply};
+ghost use Rattle.lines.specs.Words.{words, reply_to};
 ghost use Rattle.lines.specs.declared.fault.Fault.TheVariants.{Refused};
 
 use book::answers::Refusal;
@@ -102,7 +102,7 @@ impl From<Refusal> for Fault {
 }
 
 impl fmt::Display for Fault {
-    ghost output = { λ fault. Some (words (reply (Err fault))) };
+    ghost output = { λ fault. Some (words (reply_to (Err fault))) };
 
     fn fmt<W: fmt::Write>(&self, f: &mut fmt::Formatter<W>) -> fmt::Result {
         match self.layer() {

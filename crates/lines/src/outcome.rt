@@ -3,7 +3,7 @@
 // `out`, and contracts would then speak of what is lent.
 ghost use Rattle.std.specs.Prelude.{◌≡◌, ◌≤◌, length, Err};
 ghost use Rattle.printed.specs.Text.{put_behind};
-ghost use Rattle.lines.specs.Words.{words, printed_line, named_words, named_lines, names, printed, reply, named_recalled, named_woken};
+ghost use Rattle.lines.specs.Words.{words, printed_line, named_words, named_lines, names, printed, reply_to, named_recalled, named_woken};
 
 use crate::fault::{Fault, Layer};
 use book::answers::Answer;
@@ -13,8 +13,8 @@ use printed::place::Printed;
 // Puts the words of a fault: a fault of the line says its place, any other is a refusal.
 // Kept: beside the `Display` of `Fault`, for the reason that stands at `Printed::put_number`.
 fn put_fault(fault: Fault, out: &mut Printed)
-    ensures puts { out.new ≡ put_behind out.old (words (reply (Err fault))) }
-    ensures short { length (words (reply (Err fault))) ≤ 16 }
+    ensures puts { out.new ≡ put_behind out.old (words (reply_to (Err fault))) }
+    ensures short { length (words (reply_to (Err fault))) ≤ 16 }
 {
     match fault.layer() {
         Layer::Line => {
@@ -32,8 +32,8 @@ fn put_fault(fault: Fault, out: &mut Printed)
 
 // Puts the printed line of a reply.
 fn put_reply(number: u32, outcome: Result<Answer, Fault>, out: &mut Printed)
-    ensures puts { out.new ≡ put_behind out.old (printed_line number (words (reply outcome))) }
-    ensures short { length (printed_line number (words (reply outcome))) ≤ 28 }
+    ensures puts { out.new ≡ put_behind out.old (printed_line number (words (reply_to outcome))) }
+    ensures short { length (printed_line number (words (reply_to outcome))) ≤ 28 }
 {
     out.put_number(number);
     out.put(b' ');
@@ -81,7 +81,7 @@ pub fn print_outcome(
     report: &Report,
     out: &mut Printed,
 )
-    ensures { out.new ≡ printed number (reply outcome) (named_recalled report.now) (named_woken report.now) }
+    ensures { out.new ≡ printed number (reply_to outcome) (named_recalled report.now) (named_woken report.now) }
 {
     let recalled = (report.recalled as usize).min(64);
     let named = (recalled + report.woken as usize).min(64);

@@ -1,5 +1,5 @@
 -- Whether some element of a list passes: lists put together, mapped and filtered, and an element that passes.
-use Rattle.std.proofs.Common.{◌≡◌, Bool, true, ◌&&◌, List, [], ◌∷◌, map, is_some, filter, refl, inl, inr, arith}
+use Rattle.std.proofs.Common.{◌≡◌, Bool, true, false, ◌&&◌, List, [], ◌∷◌, map, is_some, filter, refl, inl, inr, arith}
 use Rattle.std.specs.List.{AllByRecursion}
 use Rattle.std.proofs.lemmas.Bool.{or_cases, or_left, or_right, false≢true}
 use Rattle.model.specs.Search.{any, find}
@@ -45,6 +45,11 @@ any_found p (x ∷ xs) = λ h. elim (or_cases (p x) (any p xs) h) [
 -- if some element passes, there is one that passes
 pub any_witness : {X : Type 0} (p : X → Bool) (xs : List X) → any p xs ≡ true → (x : X) × (p x ≡ true)
 any_witness p xs h = let found = any_found p xs h in (found.0, found.1)
+
+-- where nothing passes nothing is kept
+pub kept_nothing : {X : Type 0} (p : X → Bool) (xs : List X) → any p xs ≡ false → filter p xs ≡ []
+kept_nothing p [] = λ h. refl
+kept_nothing p (x ∷ xs) = λ h. grind (arith, kept_nothing p xs)
 
 -- the search finds an element exactly when some element passes
 pub find_any : {X : Type 0} (p : X → Bool) (xs : List X) → is_some (find p xs) ≡ any p xs

@@ -10,7 +10,7 @@ use Rattle.model.specs.Search.{member, last, is_distinct}
 use Rattle.model.specs.State.{State, numbers}
 use Rattle.model.specs.Recalling.{Order, named, standing, strictly_before, unbeaten, first}
 use Rattle.model.specs.Claims.{dispatch_waits}
-use Rattle.model.specs.Calls.{Effect, checks, refusal, effect, woken, step}
+use Rattle.model.specs.Calls.{Effect, checks, refusal, effect_by, woken, step}
 use Rattle.model.specs.Invariant.{WellFormed}
 use Rattle.model.specs.Firsts.{IsFirst}
 use Rattle.model.specs.Law.{once_entered}
@@ -22,7 +22,7 @@ use Rattle.model.specs.declared.state.Opened.{Opened}
 use Rattle.model.proofs.Numbers.{all_pass_member, all_pass_from, closed_shorter, kept_by_shorter}
 use Rattle.model.proofs.Victims.{member_kept, kept_none}
 use Rattle.model.proofs.Recalls.{Grounded, grounded_recall, Recalls, done, next, first_none, first_some, cycle_open}
-use Rattle.model.proofs.Steps.{Looked, looks, looks_not, looked, step_invariant}
+use Rattle.model.proofs.Steps.{Looked, looks, looks_not, looks_or_recalls_nobody, step_invariant}
 use Rattle.model.proofs.LawHolds.{few_open}
 
 -- different open dispatches have different standings
@@ -145,5 +145,5 @@ module _ (u : Relations) (o : Order) (s : State) (c : Call) (e : Effect) (before
 pub report_fits : ReportFits
 unfolding step
 report_fits u o lawful s i c =
-    named_few u o s c (effect u o s c (refusal (checks u s c))) (open_few u s i.well_formed)
-    (open_few u (effect u o s c (refusal (checks u s c))).state (step_invariant u o lawful s i c).well_formed) (looked u o lawful s i.well_formed c)
+    named_few u o s c (effect_by u o s c (refusal (checks u s c))) (open_few u s i.well_formed)
+    (open_few u (effect_by u o s c (refusal (checks u s c))).state (step_invariant u o lawful s i c).well_formed) (looks_or_recalls_nobody u o lawful s i.well_formed c)

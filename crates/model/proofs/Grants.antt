@@ -4,12 +4,12 @@ use Rattle.std.proofs.lemmas.Bool.{and_parts, eqb-true, not-true, ne_eqb}
 use Rattle.std.proofs.lemmas.Bool.Decides.{nat_tests}
 use Rattle.uses.specs.Relations.{Relations, UseLaws}
 use Rattle.orders.specs.Laws.{OrderLaws}
-use Rattle.model.specs.Claims.{placed, of, waits, dispatch_waits, covered, claim_waits}
+use Rattle.model.specs.Claims.{placed_claims, of, waits, dispatch_waits, covered, claim_waits}
 use Rattle.model.specs.State.{State, numbers, is_open, taken_out, entered, recall}
 use Rattle.model.specs.Recalling.{Order, named, recalling}
 use Rattle.model.specs.Calls.{is_granted, is_covered, checks, refusal, Effect, after_entry, accepted, woken, step}
 use Rattle.model.specs.Invariant.{claim_in_range, WellFormed, Invariant}
-use Rattle.model.specs.Runs.{Run, start, next, at, names, Grants, granted, covered as answered_covered, woken as named_woken, Granted, just_now, before}
+use Rattle.model.specs.Runs.{Run, start, next, at, names, Grants, by_grant, by_cover, by_wake, Granted, just_now, before}
 use Rattle.model.specs.Law.{IsEntered, Exclusion}
 use Rattle.model.specs.declared.call.Call.{Call}
 use Rattle.model.specs.declared.call.Call.TheVariants as call
@@ -20,7 +20,7 @@ use Rattle.model.specs.declared.state.Detection.TheVariants.{Continuous, Periodi
 use Rattle.model.proofs.Anys.{any_wider, any_map, any_kept_by, any_witness}
 use Rattle.model.proofs.ClaimLists.{backed, backed_push, backed_without, backed_covered, backed_apart, covered_push, covered_push_new, covered_without, covered_waiting, any_claims}
 use Rattle.model.proofs.Numbers.{open_closed, any_passes}
-use Rattle.model.proofs.Recalls.{Recalls, done, next as then, recalls}
+use Rattle.model.proofs.Recalls.{Recalls, done, next as then, recalling_recalls}
 use Rattle.model.proofs.Keeps.{grounded}
 use Rattle.model.proofs.Steps.{asked, effect_cases, claim_cases, answers_entered, passed_claim, entry_kept, new_invariant, step_invariant}
 
@@ -70,14 +70,14 @@ module _ (u : Relations) where
 
 module _ (u : Relations) (o : Order) (lawful : OrderLaws o) (s : State) (w : WellFormed u s) where
   recalling_carries : (t : State) → WellFormed u t → Carries u t (recalling u o t).state
-  recalling_carries t kept = recalls_carries u o (recalls u o lawful t (grounded u t kept))
+  recalling_carries t kept = recalls_carries u o (recalling_recalls u o lawful t (grounded u t kept))
 
   entry_carries : (t : State) → WellFormed u t → (detection : Detection) → Carries u t (after_entry u o detection t).state
   entry_carries t kept Continuous = recalling_carries t kept
   entry_carries t kept Periodic = same_carries u t t refl
 
   entry_open : (t : State) → WellFormed u t → (detection : Detection) (d : ℕ) → is_open (after_entry u o detection t).state d ≡ true → is_open t d ≡ true
-  entry_open t kept Continuous d h = recalls_open u o (recalls u o lawful t (grounded u t kept)) d h
+  entry_open t kept Continuous d h = recalls_open u o (recalling_recalls u o lawful t (grounded u t kept)) d h
   entry_open t kept Periodic d h = h
 
   claimed_carries : (c : Claim) → WellFormed u (entered c s) → Carries u s (after_entry u o s.detection (entered c s)).state
@@ -146,7 +146,7 @@ module _ (u : Relations) (laws : UseLaws u) (o : Order) (lawful : OrderLaws o) (
   -- a use for which a claim waits is known, so it covers itself
   waiting_covers : (d section mode : ℕ) → claim_waits u s.claims d section mode ≡ true → u.cover mode mode ≡ true
   waiting_covers d section mode h =
-      let there = any_wider (λ p. of d p.claim && (eqb p.claim.section section && (eqb p.claim.mode mode && waits u p))) (λ p. eqb p.claim.mode mode) (λ p k. grind (arith, k)) (placed s.claims) h in
+      let there = any_wider (λ p. of d p.claim && (eqb p.claim.section section && (eqb p.claim.mode mode && waits u p))) (λ p. eqb p.claim.mode mode) (λ p k. grind (arith, k)) (placed_claims s.claims) h in
       let found = any_passes (claim_in_range u s) (λ c. eqb c.mode mode) s.claims w.claims_in_range (sym (any_claims (λ c. eqb c.mode mode) [] s.claims) ∙ there) in
       laws.reflexive mode (grind (arith, nat_tests, found.1, found.2))
 
@@ -166,15 +166,15 @@ module _ (u : Relations) (laws : UseLaws u) (o : Order) (lawful : OrderLaws o) w
 
   -- what a call grants is backed after it
   grants_backed : (r : Run) (c : Call) (d section mode : ℕ) → Grants u o r c d section mode → is_open (at u o (next r c)) d ≡ true → backed u (at u o (next r c)).claims d section mode ≡ true
-  grants_backed r c d section mode (granted e a) here =
+  grants_backed r c d section mode (by_grant e a) here =
       subst
       (λ (x : Call). (step u o (at u o r) x).answer ≡ is_granted → is_open (step u o (at u o r) x).state d ≡ true → backed u (step u o (at u o r) x).state.claims d section mode ≡ true)
       (sym e) (granted_backed u laws o lawful (at u o r) (run_invariant r).well_formed d section mode) a here
-  grants_backed r c d section mode (answered_covered e a) here =
+  grants_backed r c d section mode (by_cover e a) here =
       subst
       (λ (x : Call). (step u o (at u o r) x).answer ≡ is_covered → backed u (step u o (at u o r) x).state.claims d section mode ≡ true)
       (sym e) (covered_backed u laws o lawful (at u o r) (run_invariant r).well_formed d section mode) a
-  grants_backed r c d section mode (named_woken n waited) here =
+  grants_backed r c d section mode (by_wake n waited) here =
       woken_backed u laws o lawful (at u o r) (run_invariant r).well_formed c d section mode n waited here
 
   -- what was granted since opening is backed

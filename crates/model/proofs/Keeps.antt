@@ -1,5 +1,5 @@
 -- What each change of the state keeps.
-use Rattle.std.proofs.Common.{◌≡◌, ℕ, ◌<◌, ◌≤◌, true, false, not, eqb, List, [], ◌∷◌, ◌++◌, length, refl, ap, ◌∙◌, ⊎_elim, arith}
+use Rattle.std.proofs.Common.{◌≡◌, ℕ, ◌<◌, ◌≤◌, Bool, true, false, not, eqb, List, [], ◌∷◌, ◌++◌, length, refl, ap, ◌∙◌, ⊎_elim, arith}
 use Rattle.std.specs.List.{list_all}
 use Rattle.std.proofs.lemmas.List.{length_push}
 use Rattle.std.proofs.lemmas.Bool.{cases_eq, false≢true}
@@ -57,29 +57,27 @@ module _ (u : Relations) (s : State) (w : WellFormed u s) where
     one_waits = λ e. omega (arith, waiting_claims_without u s.claims d e, w.one_waits e);
   }
 
-  -- joining the recalled set, by one who is not open
-  pub joined_kept : (d : ℕ) → d < 64 → is_open s d ≡ false → WellFormed u (joined d s)
-  joined_kept d low out = record {
+  -- another recalled set, of numbers below 64 that are not open
+  recalled_kept : (recalled : ℕ → Bool) → ((d : ℕ) → recalled d ≡ true → d < 64) → ((d : ℕ) → recalled d ≡ true → is_open s d ≡ false) → WellFormed u (record { opened = s.opened; recalled = recalled; claims = s.claims; detection = s.detection })
+  recalled_kept recalled below out = record {
     distinct = w.distinct;
     entries = w.entries;
-    recalled_below = λ e h. grind (arith, nat_tests, w.recalled_below e);
-    disjoint = λ e h. grind (arith, nat_tests, w.disjoint e);
+    recalled_below = below;
+    disjoint = out;
     claims_in_range = w.claims_in_range;
     few_claims = w.few_claims;
     one_waits = w.one_waits;
   }
 
+  -- joining the recalled set, by one who is not open
+  pub joined_kept : (d : ℕ) → d < 64 → is_open s d ≡ false → WellFormed u (joined d s)
+  joined_kept d low out =
+      recalled_kept (joined d s).recalled (λ e h. grind (arith, nat_tests, w.recalled_below e)) (λ e h. grind (arith, nat_tests, w.disjoint e))
+
   -- leaving the recalled set
   pub acknowledged_kept : (d : ℕ) → WellFormed u (acknowledged d s)
-  acknowledged_kept d = record {
-    distinct = w.distinct;
-    entries = w.entries;
-    recalled_below = λ e h. grind (arith, nat_tests, w.recalled_below e);
-    disjoint = λ e h. grind (arith, nat_tests, w.disjoint e);
-    claims_in_range = w.claims_in_range;
-    few_claims = w.few_claims;
-    one_waits = w.one_waits;
-  }
+  acknowledged_kept d =
+      recalled_kept (acknowledged d s).recalled (λ e h. grind (arith, nat_tests, w.recalled_below e)) (λ e h. grind (arith, nat_tests, w.disjoint e))
 
   -- opening, of one who is free
   pub opening_kept : (d weight : ℕ) → d < 64 → weight ≤ 1000 → s.recalled d ≡ false → is_open s d ≡ false → WellFormed u (opening d weight s)

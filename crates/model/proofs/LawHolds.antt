@@ -8,7 +8,7 @@ use Rattle.orders.specs.Laws.{OrderLaws}
 use Rattle.model.specs.Claims.{waits_for, dispatch_waits}
 use Rattle.model.specs.State.{State, numbers}
 use Rattle.model.specs.Recalling.{Order}
-use Rattle.model.specs.Calls.{Effect, checks, refusal, effect, step}
+use Rattle.model.specs.Calls.{Effect, checks, refusal, effect_by, step}
 use Rattle.model.specs.Invariant.{entry_in_range, WellFormed, Invariant, NoCycle}
 use Rattle.model.specs.Runs.{Run, start, next, at, EachMoment, EachCall}
 use Rattle.model.specs.Graph.{CycleStands}
@@ -22,7 +22,7 @@ use Rattle.model.proofs.Graphs.{at_most, chain_short, end_member}
 use Rattle.model.proofs.ClaimLists.{waits_waits_for}
 use Rattle.model.proofs.Recalls.{some_after, steps_open, recalls_clear, recalls_some, recalls_cycle, Right, recalls_right}
 use Rattle.model.proofs.Keeps.{grounded}
-use Rattle.model.proofs.Steps.{Looked, looks, looks_not, looked, step_detection, step_invariant}
+use Rattle.model.proofs.Steps.{Looked, looks, looks_not, looks_or_recalls_nobody, step_detection, step_invariant}
 use Rattle.model.proofs.Grants.{run_invariant, exclusion}
 
 numbers_below : (es : List Opened) → list_all entry_in_range es ≡ true → AllByRecursion (λ n. n < 64) (numbers es)
@@ -69,8 +69,8 @@ module _ (u : Relations) (laws : UseLaws u) (o : Order) (lawful : OrderLaws o) (
   abbrev i : Invariant u s
   i = run_invariant u laws o lawful r
 
-  abbrev looked_at : Looked u o s c (effect u o s c (refusal (checks u s c)))
-  looked_at = looked u o lawful s i.well_formed c
+  abbrev looked_at : Looked u o s c (effect_by u o s c (refusal (checks u s c)))
+  looked_at = looks_or_recalls_nobody u o lawful s i.well_formed c
 
   progress : Progress u o r c
   unfolding step
@@ -78,21 +78,21 @@ module _ (u : Relations) (laws : UseLaws u) (o : Order) (lawful : OrderLaws o) (
       let after = step_invariant u o lawful s i c in
       waits_end u (step u o s c).state after.well_formed
       (⊎_elim (λ k. after.no_cycle (step_detection u o lawful s i.well_formed c ∙ k))
-      (λ k. sweep_clears u o s c (effect u o s c (refusal (checks u s c))) looked_at k) why)
+      (λ k. sweep_clears u o s c (effect_by u o s c (refusal (checks u s c))) looked_at k) why)
 
   recall_when : RecallWhen u o r c
   unfolding step
   recall_when = record {
-    by_claim = λ k entered. looked_when u o s c (effect u o s c (refusal (checks u s c))) looked_at (inr (k, entered));
-    by_sweep = λ is. subst (λ (x : Call). Iff ((step u o s c).recalls ≡ [] → ⊥) (CycleStands (waits_for u (once_entered x s).claims))) is (looked_when u o s c (effect u o s c (refusal (checks u s c))) looked_at (inl is));
-    by_no_other = looked_only u o s c (effect u o s c (refusal (checks u s c))) looked_at;
+    by_claim = λ k entered. looked_when u o s c (effect_by u o s c (refusal (checks u s c))) looked_at (inr (k, entered));
+    by_sweep = λ is. subst (λ (x : Call). Iff ((step u o s c).recalls ≡ [] → ⊥) (CycleStands (waits_for u (once_entered x s).claims))) is (looked_when u o s c (effect_by u o s c (refusal (checks u s c))) looked_at (inl is));
+    by_no_other = looked_only u o s c (effect_by u o s c (refusal (checks u s c))) looked_at;
   }
 
   recall_whom : RecallWhom u o r c
   unfolding step
   recall_whom = record {
-    was_on_cycle = λ earlier later n is. (looked_right u o s c (effect u o s c (refusal (checks u s c))) looked_at earlier later n is).0;
-    none_before = λ earlier later n is. (looked_right u o s c (effect u o s c (refusal (checks u s c))) looked_at earlier later n is).1;
+    was_on_cycle = λ earlier later n is. (looked_right u o s c (effect_by u o s c (refusal (checks u s c))) looked_at earlier later n is).0;
+    none_before = λ earlier later n is. (looked_right u o s c (effect_by u o s c (refusal (checks u s c))) looked_at earlier later n is).1;
   }
 
 module _ (u : Relations) (laws : UseLaws u) (o : Order) (lawful : OrderLaws o) where

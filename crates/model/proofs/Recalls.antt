@@ -67,17 +67,17 @@ module _ (u : Relations) (s : State) (g : Grounded s) where
         λ c. kept ∙ and_from (on_cycle ks r d) (member d ks) (exact.1 c) (cycle_open d c),
       )
 
-module _ (u : Relations) (o : Order) (lawful : OrderLaws o) (s : State) where
-  -- d goes no later than e
-  abbrev no_later : ℕ → ℕ → Bool
-  no_later d e = not (strictly_before u o s e d)
+-- the first goes no later than the second
+abbrev pub no_later : Relations → Order → State → ℕ → ℕ → Bool
+no_later u o s d e = not (strictly_before u o s e d)
 
+module _ (u : Relations) (o : Order) (lawful : OrderLaws o) (s : State) where
   -- a set that is not empty has a first
   pub first_none : (ds : List ℕ) → first u o s ds ≡ None → ds ≡ []
   first_none [] e = refl
   first_none (x ∷ xs) e =
       let best =
-      some_first no_later (λ a b. grind (arith, lawful.total (summary u s a) (summary u s b)))
+      some_first (no_later u o s) (λ a b. grind (arith, lawful.total (summary u s a) (summary u s b)))
       (λ a b c h k. grind (arith, lawful.transitive (summary u s a) (summary u s b) (summary u s c)))
       x xs
       in
@@ -100,7 +100,7 @@ module _ (u : Relations) (o : Order) (lawful : OrderLaws o) where
       let chosen = first_some u o lawful s (on_cycles u s) x e in
       let cycle = (in_cycles u s g x).0 chosen.1 in
       next cycle
-      (λ d c. not-true (strictly_before u o s d x) (all_pass_member (λ y. not (strictly_before u o s y x)) d (on_cycles u s) chosen.0 ((in_cycles u s g d).1 c)))
+      (λ d c. not-true (strictly_before u o s d x) (all_pass_member (no_later u o s x) d (on_cycles u s) chosen.0 ((in_cycles u s g d).1 c)))
       (rest x (cycle_open u s g x cycle))
 
   -- with as many turns as open dispatches, recalling ends where no cycle stands
@@ -115,20 +115,15 @@ module _ (u : Relations) (o : Order) (lawful : OrderLaws o) where
       (first u o s (on_cycles u s)) refl
 
   -- recalling recalls the first of those on cycles until no cycle stands
-  pub recalls : (s : State) → Grounded s → Recalls u o s (recalling u o s).recalls (recalling u o s).state
+  pub recalling_recalls : (s : State) → Grounded s → Recalls u o s (recalling u o s).recalls (recalling u o s).state
   unfolding recalling
-  recalls s g = recalls_at_most (length s.opened) s g (omega arith)
+  recalling_recalls s g = recalls_at_most (length s.opened) s g (omega arith)
 
 module _ (u : Relations) (o : Order) where
   -- at the end no cycle stands
   pub recalls_clear : {s t : State} {ns : List Named} → Recalls u o s ns t → NoCycle u t
   recalls_clear (done clear) = clear
   recalls_clear (next cycle best rest) = recalls_clear rest
-
-  -- the state at the end is the one with the named recalled
-  pub recalls_state : {s t : State} {ns : List Named} → Recalls u o s ns t → once_recalled ns s ≡ t
-  recalls_state (done clear) = refl
-  recalls_state (next cycle best rest) = recalls_state rest
 
   -- where a cycle stands, somebody is recalled
   pub recalls_some : {s t : State} {ns : List Named} → Recalls u o s ns t → (d : ℕ) → OnCycle (waits_for u s.claims) d → ns ≡ [] → ⊥

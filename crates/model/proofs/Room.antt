@@ -4,7 +4,7 @@ use Rattle.std.proofs.lemmas.Bool.Decides.{nat_tests}
 use Rattle.uses.specs.Relations.{Relations}
 use Rattle.model.specs.State.{State, entered}
 use Rattle.model.specs.Recalling.{Order}
-use Rattle.model.specs.Calls.{Answer, is_refused, Effect, after_entry, accepted, effect, step, refusal, checks}
+use Rattle.model.specs.Calls.{Answer, is_refused, Effect, after_entry, accepted, effect_by, step, refusal, checks}
 use Rattle.model.specs.Law.{IsEntered}
 use Rattle.model.specs.Theorems.{RefusedWhenFull}
 use Rattle.model.proofs.Steps.{asked, claim_cases, answers_entered}
@@ -21,7 +21,7 @@ accepted_answered u o s d section mode =
     (λ _ e. subst IsEntered e (answers_entered u d (after_entry u o s.detection (entered (asked d section mode) s))))
 
 -- so the first check that applies is the one of number 9
-nine_applies : (u : Relations) (o : Order) (s : State) (d section mode : ℕ) (found : Option ℕ) → Nine (effect u o s (Claim d section mode) found).answer → found ≡ Some 9
+nine_applies : (u : Relations) (o : Order) (s : State) (d section mode : ℕ) (found : Option ℕ) → Nine (effect_by u o s (Claim d section mode) found).answer → found ≡ Some 9
 nine_applies u o s d section mode None e = absurd (accepted_answered u o s d section mode e)
 nine_applies u o s d section mode (Some n) e = let same : n ≡ 9 = grind (arith, e) in ap (λ (k : ℕ). Some k) same
 

@@ -7,7 +7,7 @@ use Rattle.orders.specs.Laws.{OrderLaws}
 use Rattle.model.specs.Claims.{without, waits_for, dispatch_waits, covered}
 use Rattle.model.specs.State.{State, new, is_open, taken_out, entered}
 use Rattle.model.specs.Recalling.{Order, Recalled, recalling}
-use Rattle.model.specs.Calls.{is_granted, is_covered, is_waiting, is_recalled, is_refused, checks, refusal, Effect, plain, claimed, claim_answer, is_named, after_entry, accepted, effect, step}
+use Rattle.model.specs.Calls.{is_granted, is_covered, is_waiting, is_recalled, is_refused, checks, refusal, Effect, plain, claimed, claim_answer, is_named, after_entry, accepted, effect_by, step}
 use Rattle.model.specs.Invariant.{claim_in_range, WellFormed, Invariant}
 use Rattle.model.specs.Law.{IsEntered, EntersClaim, once_entered}
 use Rattle.model.specs.declared.call.Call.{Call}
@@ -18,14 +18,14 @@ use Rattle.model.specs.declared.state.Detection.{Detection}
 use Rattle.model.specs.declared.state.Detection.TheVariants.{Continuous, Periodic}
 use Rattle.model.proofs.Graphs.{leads_wider, first_step}
 use Rattle.model.proofs.ClaimLists.{waits_for_without}
-use Rattle.model.proofs.Recalls.{Grounded, Recalls, done, next, recalls, recalls_clear, cycle_open}
+use Rattle.model.proofs.Recalls.{Grounded, Recalls, done, next, recalling_recalls, recalls_clear, cycle_open}
 use Rattle.model.proofs.Keeps.{new_kept, grounded, taken_out_kept, acknowledged_kept, opening_kept, entered_kept, recall_kept}
 
 -- a call is refused, or passes all its checks
-pub effect_cases : (u : Relations) (o : Order) (s : State) (c : Call) (P : Effect → Type 0) → ((n : ℕ) → refusal (checks u s c) ≡ Some n → P (plain s (is_refused n))) → (refusal (checks u s c) ≡ None → P (accepted u o s c)) → P (effect u o s c (refusal (checks u s c)))
+pub effect_cases : (u : Relations) (o : Order) (s : State) (c : Call) (P : Effect → Type 0) → ((n : ℕ) → refusal (checks u s c) ≡ Some n → P (plain s (is_refused n))) → (refusal (checks u s c) ≡ None → P (accepted u o s c)) → P (effect_by u o s c (refusal (checks u s c)))
 effect_cases u o s c P refused passed = by_refusal (refusal (checks u s c)) refl
   where
-    by_refusal : (v : Option ℕ) → refusal (checks u s c) ≡ v → P (effect u o s c v)
+    by_refusal : (v : Option ℕ) → refusal (checks u s c) ≡ v → P (effect_by u o s c v)
     by_refusal None e = passed e
     by_refusal (Some n) e = refused n e
 
@@ -99,7 +99,7 @@ module _ (u : Relations) (o : Order) (lawful : OrderLaws o) (s : State) (w : Wel
   looked_after_entry : (d section mode : ℕ) → WellFormed u (entered (asked d section mode) s) → (detection : Detection) → s.detection ≡ detection → Looked u o s (call.Claim d section mode) (claimed u d (after_entry u o detection (entered (asked d section mode) s)))
   looked_after_entry d section mode kept Continuous is =
       let t = entered (asked d section mode) s in
-      looks (grounded u t kept) (recalls u o lawful t (grounded u t kept)) (inr (is, answers_entered u d (recalling u o t)))
+      looks (grounded u t kept) (recalling_recalls u o lawful t (grounded u t kept)) (inr (is, answers_entered u d (recalling u o t)))
   looked_after_entry d section mode kept Periodic is = looks_not refl (λ e. cc) (λ k e. cc)
 
   looked_accepted : (c : Call) → refusal (checks u s c) ≡ None → Looked u o s c (accepted u o s c)
@@ -110,14 +110,14 @@ module _ (u : Relations) (o : Order) (lawful : OrderLaws o) (s : State) (w : Wel
   looked_accepted (call.Close d) h = looks_not refl (λ e. cc) (λ k e. e)
   looked_accepted (call.Withdraw d) h = looks_not refl (λ e. cc) (λ k e. e)
   looked_accepted (call.Acknowledge d) h = looks_not refl (λ e. cc) (λ k e. e)
-  looked_accepted call.Sweep h = looks (grounded u s w) (recalls u o lawful s (grounded u s w)) (inl refl)
+  looked_accepted call.Sweep h = looks (grounded u s w) (recalling_recalls u o lawful s (grounded u s w)) (inl refl)
 
   -- every call looks for cycles, or recalls nobody
-  pub looked : (c : Call) → Looked u o s c (effect u o s c (refusal (checks u s c)))
-  looked c = effect_cases u o s c (Looked u o s c) (λ n h. looks_not refl (refused_sweep u s c n h) (λ k. refused_enters c n)) (looked_accepted c)
+  pub looks_or_recalls_nobody : (c : Call) → Looked u o s c (effect_by u o s c (refusal (checks u s c)))
+  looks_or_recalls_nobody c = effect_cases u o s c (Looked u o s c) (λ n h. looks_not refl (refused_sweep u s c n h) (λ k. refused_enters c n)) (looked_accepted c)
 
   entry_detection : (t : State) → WellFormed u t → (detection : Detection) → (after_entry u o detection t).state.detection ≡ t.detection
-  entry_detection t kept Continuous = recalls_detection u o (recalls u o lawful t (grounded u t kept))
+  entry_detection t kept Continuous = recalls_detection u o (recalling_recalls u o lawful t (grounded u t kept))
   entry_detection t kept Periodic = refl
 
   accepted_detection : (c : Call) → refusal (checks u s c) ≡ None → (accepted u o s c).state.detection ≡ s.detection
@@ -128,7 +128,7 @@ module _ (u : Relations) (o : Order) (lawful : OrderLaws o) (s : State) (w : Wel
   accepted_detection (call.Close d) h = refl
   accepted_detection (call.Withdraw d) h = refl
   accepted_detection (call.Acknowledge d) h = refl
-  accepted_detection call.Sweep h = recalls_detection u o (recalls u o lawful s (grounded u s w))
+  accepted_detection call.Sweep h = recalls_detection u o (recalling_recalls u o lawful s (grounded u s w))
 
   -- every call keeps the detection
   pub step_detection : (c : Call) → (step u o s c).state.detection ≡ s.detection
@@ -142,7 +142,7 @@ module _ (u : Relations) (o : Order) (lawful : OrderLaws o) (s : State) (i : Inv
   -- after recalling, the state is well formed and no cycle stands
   recalling_invariant : (t : State) → WellFormed u t → Invariant u (recalling u o t).state
   recalling_invariant t kept =
-      let rs = recalls u o lawful t (grounded u t kept) in
+      let rs = recalling_recalls u o lawful t (grounded u t kept) in
       record { well_formed = recalls_kept u o rs kept; no_cycle = λ _. recalls_clear u o rs }
 
   entry_invariant : (t : State) → WellFormed u t → (detection : Detection) → t.detection ≡ detection → Invariant u (after_entry u o detection t).state

@@ -1,5 +1,5 @@
 -- Recalling, one turn at a time; and the first of a list that grows.
-use Rattle.std.proofs.Common.{◌≡◌, ℕ, zero, suc, ◌≤◌, Bool, true, false, cond, not, ◌&&◌, eqb, List, [], ◌∷◌, ◌++◌, length, Some, None, filter, Option, sym, refl, ap, ◌∙◌, subst, arith}
+use Rattle.std.proofs.Common.{◌≡◌, ℕ, zero, suc, ◌≤◌, Bool, true, false, cond, ◌&&◌, eqb, List, [], ◌∷◌, ◌++◌, length, Some, None, filter, Option, sym, refl, ap, ◌∙◌, subst, arith}
 use Rattle.std.specs.List.{list_all}
 use Rattle.std.proofs.lemmas.List.Elements.{filter-append}
 use Rattle.std.proofs.lemmas.List.Folds.{list_all-append}
@@ -10,9 +10,9 @@ use Rattle.uses.specs.Relations.{Relations}
 use Rattle.orders.specs.Laws.{OrderLaws}
 use Rattle.model.specs.Search.{member, last}
 use Rattle.model.specs.State.{State, numbers, is_open, recall}
-use Rattle.model.specs.Recalling.{Order, Recalled, named, nobody, recall_and, first, unbeaten, strictly_before, summary, on_cycles, recalling_at_most, recalling}
+use Rattle.model.specs.Recalling.{Order, Recalled, named, nobody, recall_and, first, unbeaten, summary, on_cycles, recalling_at_most, recalling}
 use Rattle.model.proofs.Numbers.{closed_shorter, all_pass_wider, all_pass_member}
-use Rattle.model.proofs.Recalls.{Grounded, grounded_recall, in_cycles, cycle_open, first_some, first_none}
+use Rattle.model.proofs.Recalls.{Grounded, grounded_recall, in_cycles, cycle_open, no_later, first_some, first_none}
 
 module _ (u : Relations) (o : Order) (lawful : OrderLaws o) where
   -- the first of those on cycles is open
@@ -83,21 +83,17 @@ last_push (y ∷ []) x = refl
 last_push (y ∷ (z ∷ zs)) x = last_push (z ∷ zs) x
 
 module _ (u : Relations) (o : Order) (lawful : OrderLaws o) (s : State) (ds : List ℕ) (d : ℕ) where
-  -- x goes no later than y
-  abbrev no_later : ℕ → ℕ → Bool
-  no_later x y = not (strictly_before u o s y x)
-
   abbrev more : List ℕ
   more = ds ++ d ∷ []
 
-  unbeaten_more : (x : ℕ) → unbeaten u o s more x ≡ (unbeaten u o s ds x && no_later x d)
-  unbeaten_more x = all_pass_more (no_later x) ds d
+  unbeaten_more : (x : ℕ) → unbeaten u o s more x ≡ (unbeaten u o s ds x && no_later u o s x d)
+  unbeaten_more x = all_pass_more (no_later u o s x) ds d
 
   -- a set and one more that goes no later than its first
   first_takes : (b : ℕ) → first u o s ds ≡ Some b → o (summary u s d) (summary u s b) ≡ true → first u o s more ≡ Some d
   first_takes b e h =
       let chosen = first_some u o lawful s ds b e in
-      let all = all_pass_wider (no_later b) (no_later d) (λ y k. let through = lawful.transitive (summary u s d) (summary u s b) (summary u s y) h in grind (arith, through, k)) ds chosen.0 in
+      let all = all_pass_wider (no_later u o s b) (no_later u o s d) (λ y k. let through = lawful.transitive (summary u s d) (summary u s b) (summary u s y) h in grind (arith, through, k)) ds chosen.0 in
       let itself = lawful.total (summary u s d) (summary u s d) in
       let passes : unbeaten u o s more d ≡ true = unbeaten_more d ∙ grind (arith, all, itself) in
       let alone : filter (unbeaten u o s more) (d ∷ []) ≡ d ∷ [] = grind (arith, passes) in
@@ -108,11 +104,11 @@ module _ (u : Relations) (o : Order) (lawful : OrderLaws o) (s : State) (ds : Li
   first_keeps b e h =
       let chosen = first_some u o lawful s ds b e in
       let ahead = lawful.total (summary u s d) (summary u s b) in
-      let beaten : unbeaten u o s more d ≡ false = unbeaten_more d ∙ grind (arith, h, all_pass_member (no_later d) b ds, chosen.1) in
+      let beaten : unbeaten u o s more d ≡ false = unbeaten_more d ∙ grind (arith, h, all_pass_member (no_later u o s d) b ds, chosen.1) in
       let alone : filter (unbeaten u o s more) (d ∷ []) ≡ [] = grind (arith, beaten) in
       let same =
       kept_same (unbeaten u o s more) (unbeaten u o s ds) ds
-      (λ x m. let through = lawful.transitive (summary u s x) (summary u s b) (summary u s d) in let first_of_all = all_pass_member (no_later x) b ds in unbeaten_more x ∙ grind (arith, through, ahead, h, first_of_all, chosen.1))
+      (λ x m. let through = lawful.transitive (summary u s x) (summary u s b) (summary u s d) in let first_of_all = all_pass_member (no_later u o s x) b ds in unbeaten_more x ∙ grind (arith, through, ahead, h, first_of_all, chosen.1))
       in
       ap last (filter-append (unbeaten u o s more) ds (d ∷ []) ∙ (ap (λ ks. filter (unbeaten u o s more) ds ++ ks) alone ∙ (append-nil (filter (unbeaten u o s more) ds) ∙ same))) ∙ e
 

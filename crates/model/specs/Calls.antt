@@ -50,8 +50,8 @@ abbrev pub open_already : State → ℕ → Check
 open_already s d = (is_open s d, 6)
 
 -- 7: the dispatch is free
-abbrev pub not_open : State → ℕ → Check
-not_open s d = (is_free s d, 7)
+abbrev pub free_already : State → ℕ → Check
+free_already s d = (is_free s d, 7)
 
 -- 8: the dispatch waits
 abbrev pub waiting_already : Relations → State → ℕ → Check
@@ -69,10 +69,10 @@ not_recalled s d = (not (s.recalled d), 10)
 abbrev pub checks : Relations → State → Call → List Check
 checks u s (call.Open d weight) = number_too_high d ∷ weight_too_high weight ∷ recalled_already s d ∷ open_already s d ∷ []
 checks u s (call.Claim d section mode) =
-    number_too_high d ∷ section_too_high section ∷ unknown_use u mode ∷ recalled_already s d ∷ not_open s d ∷ waiting_already u s d
+    number_too_high d ∷ section_too_high section ∷ unknown_use u mode ∷ recalled_already s d ∷ free_already s d ∷ waiting_already u s d
     ∷ no_room u s d section mode ∷ []
-checks u s (call.Close d) = number_too_high d ∷ recalled_already s d ∷ not_open s d ∷ waiting_already u s d ∷ []
-checks u s (call.Withdraw d) = number_too_high d ∷ recalled_already s d ∷ not_open s d ∷ []
+checks u s (call.Close d) = number_too_high d ∷ recalled_already s d ∷ free_already s d ∷ waiting_already u s d ∷ []
+checks u s (call.Withdraw d) = number_too_high d ∷ recalled_already s d ∷ free_already s d ∷ []
 checks u s (call.Acknowledge d) = number_too_high d ∷ not_recalled s d ∷ []
 checks u s call.Sweep = []
 
@@ -138,9 +138,9 @@ accepted u o s (call.Acknowledge d) = plain (acknowledged d s) is_ok
 accepted u o s call.Sweep = swept (recalling u o s)
 
 -- what a call does: a refused one changes nothing and recalls nobody
-abbrev pub effect : Relations → Order → State → Call → Option ℕ → Effect
-effect u o s c None = accepted u o s c
-effect u o s c (Some n) = plain s (is_refused n)
+abbrev pub effect_by : Relations → Order → State → Call → Option ℕ → Effect
+effect_by u o s c None = accepted u o s c
+effect_by u o s c (Some n) = plain s (is_refused n)
 
 -- who waited in the first state and runs in the second, in order of opening, each with the section for which it waited
 abbrev pub woken : Relations → State → State → List Named
@@ -161,7 +161,7 @@ with_wakes u s e = record { state = e.state; answer = e.answer; recalls = e.reca
 
 -- a call in a state
 unfoldable pub step : Relations → Order → State → Call → Outcome
-step u o s c = with_wakes u s (effect u o s c (refusal (checks u s c)))
+step u o s c = with_wakes u s (effect_by u o s c (refusal (checks u s c)))
 
 -- 64 places: the given, and then unused ones
 abbrev pub places : ℕ → List ℕ → List ℕ

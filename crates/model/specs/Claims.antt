@@ -16,8 +16,8 @@ placed_behind earlier [] = []
 placed_behind earlier (c ∷ cs) = record { earlier = earlier; claim = c } ∷ placed_behind (earlier ++ c ∷ []) cs
 
 -- the claims of a list in their places
-abbrev pub placed : List Claim → List Placed
-placed cs = placed_behind [] cs
+abbrev pub placed_claims : List Claim → List Placed
+placed_claims cs = placed_behind [] cs
 
 -- the claim is of the dispatch
 abbrev pub of : ℕ → Claim → Bool
@@ -33,27 +33,27 @@ waits u p = any (λ b. blocks u b p.claim) p.earlier
 
 -- a dispatch waits when one of its claims waits
 abbrev pub dispatch_waits : Relations → List Claim → ℕ → Bool
-dispatch_waits u cs d = any (λ p. of d p.claim && waits u p) (placed cs)
+dispatch_waits u cs d = any (λ p. of d p.claim && waits u p) (placed_claims cs)
 
 -- dispatch d waits for dispatch e when a claim of e blocks a claim of d
 abbrev pub waits_for : Relations → List Claim → ℕ → ℕ → Bool
-waits_for u cs d e = any (λ p. of d p.claim && any (λ b. of e b && blocks u b p.claim) p.earlier) (placed cs)
+waits_for u cs d e = any (λ p. of d p.claim && any (λ b. of e b && blocks u b p.claim) p.earlier) (placed_claims cs)
 
 -- the section of the claim for which the dispatch waits
 abbrev pub waiting_section : Relations → List Claim → ℕ → Option ℕ
-waiting_section u cs d = option_map (λ p. p.claim.section) (find (λ p. of d p.claim && waits u p) (placed cs))
+waiting_section u cs d = option_map (λ p. p.claim.section) (find (λ p. of d p.claim && waits u p) (placed_claims cs))
 
 -- how many claims of the dispatch wait
 abbrev pub waiting_claims : Relations → List Claim → ℕ → ℕ
-waiting_claims u cs d = length (filter (λ p. of d p.claim && waits u p) (placed cs))
+waiting_claims u cs d = length (filter (λ p. of d p.claim && waits u p) (placed_claims cs))
 
 -- how many claims of the dispatch are held
 abbrev pub held : Relations → List Claim → ℕ → ℕ
-held u cs d = length (filter (λ p. of d p.claim && not (waits u p)) (placed cs))
+held u cs d = length (filter (λ p. of d p.claim && not (waits u p)) (placed_claims cs))
 
 -- the dispatch has a held claim on the section
 abbrev pub holds : Relations → List Claim → ℕ → ℕ → Bool
-holds u cs section d = any (λ p. of d p.claim && (p.claim.section == section && not (waits u p))) (placed cs)
+holds u cs section d = any (λ p. of d p.claim && (p.claim.section == section && not (waits u p))) (placed_claims cs)
 
 -- a claim of the dispatch on the section covers the use
 abbrev pub covered : Relations → List Claim → ℕ → ℕ → ℕ → Bool
@@ -61,7 +61,7 @@ covered u cs d section mode = any (λ c. of d c && (c.section == section && u.co
 
 -- the dispatch's claim on the section for the use is in the list and waits
 abbrev pub claim_waits : Relations → List Claim → ℕ → ℕ → ℕ → Bool
-claim_waits u cs d section mode = any (λ p. of d p.claim && (p.claim.section == section && (p.claim.mode == mode && waits u p))) (placed cs)
+claim_waits u cs d section mode = any (λ p. of d p.claim && (p.claim.section == section && (p.claim.mode == mode && waits u p))) (placed_claims cs)
 
 -- the list without the claims of the dispatch
 abbrev pub without : ℕ → List Claim → List Claim

@@ -45,7 +45,7 @@ first u o s ds = last (filter (unbeaten u o s ds) ds)
 unfoldable pub on_cycles : Relations → State → List ℕ
 on_cycles u s = filter (on_cycle (numbers s.opened) (waits_for u s.claims)) (numbers s.opened)
 
--- the dispatch, with the section of its claim that waits
+-- the dispatch, with the section of its claim that waits, or 65535 where none waits
 abbrev pub named : Relations → State → ℕ → Named
 named u s d = record { dispatch = d; section = unwrap_or (waiting_section u s.claims d) 65535 }
 

@@ -41,9 +41,9 @@ names ns d section = any (λ n. (n.dispatch == d) && n.section == section) ns �
 
 -- a call grants a dispatch a use of a section: by its answer, or by naming the dispatch as woken, for the claim that waited
 pub data Grants (u : Relations) (o : Order) (r : Run) (c : Call) (d section mode : ℕ) : Type 0 where
-  granted : c ≡ call.Claim d section mode → (outcome u o r c).answer ≡ is_granted → Grants u o r c d section mode
-  covered : c ≡ call.Claim d section mode → (outcome u o r c).answer ≡ is_covered → Grants u o r c d section mode
-  woken : names (outcome u o r c).wakes d section → claim_waits u (at u o r).claims d section mode ≡ true → Grants u o r c d section mode
+  by_grant : c ≡ call.Claim d section mode → (outcome u o r c).answer ≡ is_granted → Grants u o r c d section mode
+  by_cover : c ≡ call.Claim d section mode → (outcome u o r c).answer ≡ is_covered → Grants u o r c d section mode
+  by_wake : names (outcome u o r c).wakes d section → claim_waits u (at u o r).claims d section mode ≡ true → Grants u o r c d section mode
 
 -- the dispatch was granted the use of the section, and has been open at every moment since
 pub data Granted (u : Relations) (o : Order) : Run → ℕ → ℕ → ℕ → Type 0 where

@@ -87,10 +87,6 @@ module _ (u : Relations) (s : State) (d : ℕ) (small : d ≤ 63) where
             let clash : ◌≡◌ {A = ℕ} 0 1 = apart (refusal (checks u s (call.Close d))) 7 (passed u o s (call.Close d) r t a h) (checked Free is) in
             absurd (omega (arith, clash))
 
-    -- the call that was made by the told condition is the one by the dispatch's
-    pub made_as : (k : Condition) → condition u s d ≡ k → (a : Result Answer Refusal) → CarriedOut u o s (hand_in k d) a r t → CarriedOut u o s (hand_in (condition u s d) d) a r t
-    made_as k is a h = subst (λ (x : Condition). CarriedOut u o s (hand_in x d) a r t) (sym is) h
-
     -- after a hand-in the number is free
     pub free_after : (k : Condition) → condition u s d ≡ k → (s.recalled d ≡ true → is_open s d ≡ false) → (a : Result Answer Refusal) → CarriedOut u o s (hand_in k d) a r t → is_free t d ≡ true
     free_after Running is never_both a h =

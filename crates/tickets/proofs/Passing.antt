@@ -3,25 +3,27 @@ use Rattle.std.proofs.Common.{◌≡◌, ℕ, Some, None, Ok, Err, Option, Resul
 use Rattle.uses.specs.Relations.{Relations}
 use Rattle.model.specs.State.{State}
 use Rattle.model.specs.Recalling.{Order}
-use Rattle.model.specs.Calls.{checks, refusal, accepted, effect, step, is_ok, is_refused}
+use Rattle.model.specs.Calls.{checks, refusal, accepted, effect_by, step, is_ok, is_refused}
 use Rattle.model.specs.declared.call.Call.{Call}
 use Rattle.model.specs.declared.report.Report.{Report}
 use Rattle.book.specs.Said.{number, said}
-use Rattle.book.specs.Carried.{CarriedOut}
+use Rattle.book.specs.Carried.{CarriedOut, Done}
+use Rattle.book.specs.Held.{state}
 use Rattle.book.specs.declared.answers.Answer.{Answer}
 use Rattle.book.specs.declared.answers.Answer.TheVariants as answer
 use Rattle.book.specs.declared.answers.Refusal.{Refusal}
+use Rattle.book.specs.declared.book.Book.{Book}
 
 module _ (u : Relations) (o : Order) (s : State) (c : Call) (r : Report) (t : State) where
   -- the answer, by the verdict of the checks
-  answer_by : (v : Option ℕ) → refusal (checks u s c) ≡ v → (step u o s c).answer ≡ (effect u o s c v).answer
+  answer_by : (v : Option ℕ) → refusal (checks u s c) ≡ v → (step u o s c).answer ≡ (effect_by u o s c v).answer
   unfolding step
-  answer_by v h = ap (λ (x : Option ℕ). (effect u o s c x).answer) h
+  answer_by v h = ap (λ (x : Option ℕ). (effect_by u o s c x).answer) h
 
   -- the state left, by the verdict of the checks
-  pub left_by : (a : Result Answer Refusal) → CarriedOut u o s c a r t → (v : Option ℕ) → refusal (checks u s c) ≡ v → t ≡ (effect u o s c v).state
+  pub left_by : (a : Result Answer Refusal) → CarriedOut u o s c a r t → (v : Option ℕ) → refusal (checks u s c) ≡ v → t ≡ (effect_by u o s c v).state
   unfolding step
-  left_by a h v is = h.left ∙ ap (λ (x : Option ℕ). (effect u o s c x).state) is
+  left_by a h v is = h.left ∙ ap (λ (x : Option ℕ). (effect_by u o s c x).state) is
 
   -- no answer says what a refusal says
   never_refused : (a : Answer) (n : ℕ) {A : Type 0} {x y : A} → said (Ok a) ≡ is_refused n → x ≡ y
@@ -54,3 +56,10 @@ module _ (u : Relations) (o : Order) (s : State) (c : Call) (r : Report) (t : St
     reported = h.reported;
     left = h.left;
   }
+
+-- a call of a book whose one answer is ok was answered ok
+pub done_ok : {T O : Type 0} {tm : _} (uses : T → Relations) (orders : O → Order) (before after : Book T O tm) (c : Call) (r : Report) (a : Answer) → (accepted (uses before.policy.table) (orders before.policy.order) (state before.tables) c).answer ≡ is_ok → Done uses orders before c (Ok a) r after → Done uses orders before c (Ok answer.Ok) r after
+done_ok uses orders before after c r a plain does = record {
+  carried = answered_ok (uses before.policy.table) (orders before.policy.order) (state before.tables) c r (state after.tables) a plain does.carried;
+  policy = does.policy;
+}

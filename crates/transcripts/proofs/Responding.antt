@@ -14,7 +14,7 @@ use Rattle.book.specs.declared.answers.Answer.{Answer}
 use Rattle.book.specs.declared.answers.Refusal.{Refusal}
 use Rattle.book.specs.declared.answers.Refusal.TheVariants.{NumberTooHigh, SectionTooHigh, NotKnown, WeightTooHigh, IsRecalled, IsOpen, IsFree, IsWaiting, NoRoom, NotRecalled}
 use Rattle.lines.specs.Reading.{Reading, too_long, no_letter, wrong_form}
-use Rattle.lines.specs.Words.{Reply, answer, reply}
+use Rattle.lines.specs.Words.{Reply, answer, reply_to}
 use Rattle.lines.specs.declared.fault.Fault.{Fault}
 use Rattle.lines.specs.declared.fault.Fault.TheVariants.{TooManyLines, TooLong, NoLetter, WrongForm, Refused}
 use Rattle.transcripts.specs.Transcript.{Gives, too_many, faulty, carried}
@@ -40,7 +40,7 @@ passed_up (Ok a) = Ok a
 passed_up (Err e) = Err (Refused e)
 
 -- it is the reply that the book's answer is
-reply_passed_up : (a : Result Answer Refusal) → reply (passed_up a) ≡ answer (said a)
+reply_passed_up : (a : Result Answer Refusal) → reply_to (passed_up a) ≡ answer (said a)
 reply_passed_up (Ok a) = refl
 reply_passed_up (Err NumberTooHigh) = refl
 reply_passed_up (Err SectionTooHigh) = refl
@@ -60,11 +60,11 @@ call_responded u o number s line c a r t below reads done fits = record {
   wakes = (step u o s c).wakes;
   reported = done.reported;
   fits = fits;
-  gives = subst (λ (x : State). Gives u o number s line (reply (passed_up a)) (step u o s c).recalls (step u o s c).wakes x) (sym done.left)
+  gives = subst (λ (x : State). Gives u o number s line (reply_to (passed_up a)) (step u o s c).recalls (step u o s c).wakes x) (sym done.left)
       (subst (λ (x : Reply). Gives u o number s line x (step u o s c).recalls (step u o s c).wakes (step u o s c).state) (sym same) (carried below c reads));
 }
   where
-    same : reply (passed_up a) ≡ answer (step u o s c).answer
+    same : reply_to (passed_up a) ≡ answer (step u o s c).answer
     same = reply_passed_up a ∙ ap answer done.answered
 
 -- the call was carried out in a state of a book

@@ -10,7 +10,7 @@ use Rattle.model.specs.declared.state.Detection.{Detection}
 use Rattle.model.specs.declared.report.Report.{Report}
 use Rattle.book.specs.Held.{state}
 use Rattle.book.specs.declared.answers.Answer.{Answer}
-use Rattle.lines.specs.Words.{Reply, reply, printed, named_recalled, named_woken}
+use Rattle.lines.specs.Words.{Reply, reply_to, printed, named_recalled, named_woken}
 use Rattle.lines.specs.declared.fault.Fault.{Fault}
 use Rattle.transcripts.specs.Inputs.{Lines, more, count}
 use Rattle.transcripts.specs.Transcript.{Gives, Turn, is_read, is_past, Answered, then_line}
@@ -49,10 +49,10 @@ line_answered u o detection ended rest text now before after number reply recall
         (subst (λ (t : List ℕ). Turn u o number (state before.book.tables) rest t (state after.book.tables)) (sym prints) (is_read given))
 
 -- a line was responded to, and the response was printed
-pub response_printed : {T O : Type 0} {tm : _} (u : Relations) (o : Order) (detection : Detection) (ended : Lines) (rest text now line : List ℕ) (before after : Console T O tm) (number : ℕ) (outcome : Result Answer Fault) (r : Report) → HasAnswered u o detection ended rest text before → before.answered < 1000000 → number ≡ suc before.answered → line ≡ before.line → Responded u o number (state before.book.tables) line outcome r (state after.book.tables) → now ≡ printed number (reply outcome) (named_recalled r) (named_woken r) → after.answered ≡ number → after.line ≡ [] → HasAnswered u o detection (more ended rest) [] (text ++ now) after
+pub response_printed : {T O : Type 0} {tm : _} (u : Relations) (o : Order) (detection : Detection) (ended : Lines) (rest text now line : List ℕ) (before after : Console T O tm) (number : ℕ) (outcome : Result Answer Fault) (r : Report) → HasAnswered u o detection ended rest text before → before.answered < 1000000 → number ≡ suc before.answered → line ≡ before.line → Responded u o number (state before.book.tables) line outcome r (state after.book.tables) → now ≡ printed number (reply_to outcome) (named_recalled r) (named_woken r) → after.answered ≡ number → after.line ≡ [] → HasAnswered u o detection (more ended rest) [] (text ++ now) after
 response_printed u o detection ended rest text now line before after number outcome r h below next is done prints counts anew =
-    line_answered u o detection ended rest text now before after number (reply outcome) done.recalls done.wakes h below next
-    (subst (λ (l : List ℕ). Gives u o number (state before.book.tables) l (reply outcome) done.recalls done.wakes (state after.book.tables)) is done.gives)
+    line_answered u o detection ended rest text now before after number (reply_to outcome) done.recalls done.wakes h below next
+    (subst (λ (l : List ℕ). Gives u o number (state before.book.tables) l (reply_to outcome) done.recalls done.wakes (state after.book.tables)) is done.gives)
     (prints ∙ named) counts anew
   where
     recalled : named_recalled r ≡ done.recalls
@@ -61,8 +61,8 @@ response_printed u o detection ended rest text now line before after number outc
     woken : named_woken r ≡ done.wakes
     woken = ap (λ (x : Report). named_woken x) done.reported ∙ woken_filled done.recalls done.wakes done.fits
 
-    named : printed number (reply outcome) (named_recalled r) (named_woken r) ≡ printed number (reply outcome) done.recalls done.wakes
-    named = ap (λ (xs : List Named). printed number (reply outcome) xs (named_woken r)) recalled ∙ ap (λ (ys : List Named). printed number (reply outcome) done.recalls ys) woken
+    named : printed number (reply_to outcome) (named_recalled r) (named_woken r) ≡ printed number (reply_to outcome) done.recalls done.wakes
+    named = ap (λ (xs : List Named). printed number (reply_to outcome) xs (named_woken r)) recalled ∙ ap (λ (ys : List Named). printed number (reply_to outcome) done.recalls ys) woken
 
 -- a line came after the last one that is read
 pub line_passed : {T O : Type 0} {tm : _} (u : Relations) (o : Order) (detection : Detection) (ended : Lines) (rest text now : List ℕ) (before after : Console T O tm) → HasAnswered u o detection ended rest text before → before.answered ≡ 1000000 → state after.book.tables ≡ state before.book.tables → now ≡ [] → after.answered ≡ before.answered → after.line ≡ [] → HasAnswered u o detection (more ended rest) [] (text ++ now) after

@@ -7,7 +7,7 @@ use Rattle.model.specs.Calls.{filled}
 use Rattle.model.specs.declared.report.Named.{Named}
 use Rattle.model.specs.declared.report.Report.{Report}
 use Rattle.book.specs.declared.answers.Answer.{Answer}
-use Rattle.lines.specs.Words.{reply}
+use Rattle.lines.specs.Words.{reply_to}
 use Rattle.lines.specs.declared.fault.Fault.{Fault}
 use Rattle.transcripts.specs.Transcript.{Gives}
 
@@ -17,4 +17,4 @@ pub record Responded (u : Relations) (o : Order) (number : ℕ) (s : State) (lin
   pub wakes : List Named
   pub reported : r ≡ filled recalls wakes
   pub fits : length recalls + length wakes ≤ 64
-  pub gives : Gives u o number s line (reply outcome) recalls wakes t
+  pub gives : Gives u o number s line (reply_to outcome) recalls wakes t

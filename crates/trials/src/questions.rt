@@ -1,7 +1,7 @@
 // The three questions, on a small book.
 use crate::trial::Trial;
 use book::answers::{Answer, Refusal};
-use book::questions::Standing;
+use book::questions::Status;
 use marks::Marks;
 use model::state::{Condition, Detection};
 use std::process::Abort;
@@ -28,17 +28,17 @@ fn one_and_two() -> Marks {
 #[test]
 fn how_does_a_dispatch_stand(rt: HostRuntime) {
     let Trial { book, .. } = small_book(&rt);
-    let waiting = Standing {
+    let waiting = Status {
         condition: Condition::Waiting,
-        waits_for: Some(10),
+        waiting_section: Some(10),
     };
-    let running = Standing {
+    let running = Status {
         condition: Condition::Running,
-        waits_for: None,
+        waiting_section: None,
     };
-    let free = Standing {
+    let free = Status {
         condition: Condition::Free,
-        waits_for: None,
+        waiting_section: None,
     };
     assert_eq!(rt; book.condition(0), Ok(waiting));
     assert_eq!(rt; book.condition(1), Ok(running));

@@ -1,1 +1,2 @@
 pub mod SpanCodes
+pub mod SpanFields

@@ -3,7 +3,7 @@ use Rattle.std.specs.Prelude.{◌≡◌, ℕ, Bool, false, cond, Ok, Err, Result
 use Rattle.uses.specs.Relations.{Relations}
 use Rattle.uses.specs.declared.table.UnknownUse.{UnknownUse}
 
--- A known code passes, an unknown one is refused.
+-- a known code passes, an unknown one is refused.
 abbrev pub checked : Relations → ℕ → Result (Unit {0}) UnknownUse
 checked m a = cond (m.known a) (Ok tt) (Err (record {}))
 

@@ -4,27 +4,27 @@ use Rattle.uses.specs.Relations.{Relations}
 use Rattle.uses.specs.declared.five_uses.Use.{Use}
 use Rattle.uses.specs.declared.five_uses.Use.TheVariants
 
--- intention shared
+-- the code of intention shared
 abbrev pub IS : ℕ
 IS = 0
 
--- intention exclusive
+-- the code of intention exclusive
 abbrev pub IX : ℕ
 IX = 1
 
--- shared
+-- the code of shared
 abbrev pub S : ℕ
 S = 2
 
--- shared with intention exclusive
+-- the code of shared with intention exclusive
 abbrev pub SIX : ℕ
 SIX = 3
 
--- exclusive
+-- the code of exclusive
 abbrev pub X : ℕ
 X = 4
 
--- every use of the table
+-- the codes of the table's uses
 abbrev pub all_five : List ℕ
 all_five = IS ∷ IX ∷ S ∷ SIX ∷ X ∷ []
 
@@ -32,7 +32,7 @@ all_five = IS ∷ IX ∷ S ∷ SIX ∷ X ∷ []
 abbrev pub free_pairs : List (ℕ × ℕ)
 free_pairs = (IS, IS) ∷ (IS, IX) ∷ (IS, S) ∷ (IS, SIX) ∷ (IX, IX) ∷ (S, S) ∷ []
 
--- a is among the listed uses
+-- the code is among the listed
 abbrev pub listed : ℕ → List ℕ → Bool
 listed a [] = false
 listed a (u ∷ us) = a == u || listed a us
@@ -42,7 +42,7 @@ abbrev pub paired : ℕ → ℕ → List (ℕ × ℕ) → Bool
 paired a b [] = false
 paired a b (p ∷ ps) = ((a == p.0 && b == p.1) || (b == p.0 && a == p.1)) || paired a b ps
 
--- there are no other uses
+-- the code is one of the five
 abbrev pub known : ℕ → Bool
 known a = listed a all_five
 

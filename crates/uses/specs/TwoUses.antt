@@ -4,15 +4,15 @@ use Rattle.uses.specs.Relations.{Relations}
 use Rattle.uses.specs.declared.two_uses.Use.{Use}
 use Rattle.uses.specs.declared.two_uses.Use.TheVariants.{Look, Move}
 
--- to look at a section
+-- the code is that of a look
 abbrev pub is_look : ℕ → Bool
 is_look a = a == 0
 
--- to move on a section
+-- the code is that of a move
 abbrev pub is_move : ℕ → Bool
 is_move a = a == 1
 
--- there are no other uses
+-- the code is one of the two
 abbrev pub known : ℕ → Bool
 known a = is_look a || is_move a
 

@@ -53,14 +53,14 @@ const COVERS: [[bool; 5]; 5] = [
 ];
 
 impl Use {
-    // What the first matrix has for the two.
+    // Do the two uses conflict?
     fn conflicts_with(self, other: Use) -> bool
         ensures { result ≡ five_uses.conflict (code_of self) (code_of other) }
     {
         CONFLICTS[self as usize][other as usize]
     }
 
-    // What the second matrix has for the two.
+    // Does the use cover the other?
     fn covers(self, other: Use) -> bool
         ensures { result ≡ five_uses.cover (code_of self) (code_of other) }
     {

@@ -78,7 +78,7 @@ impl Span {
     }
 
     // If any field is shared, the first field of the span that starts later is.
-    #[tactic(auto, using(crate::specs::Fields::share_later))]
+    #[tactic(auto, using(crate::proofs::SpanFields::share_later))]
     fn shares_field(self, other: Span) -> bool
         ensures { result ≡ share_a_field self other }
     {
@@ -87,7 +87,7 @@ impl Span {
     }
 
     // A run of fields has all between its first and its last.
-    #[tactic(auto, using(crate::specs::Fields::has_first_and_last))]
+    #[tactic(auto, using(crate::proofs::SpanFields::has_first_and_last))]
     fn has_all_fields_of(self, other: Span) -> bool
         requires { other.from < other.to }
         ensures { result ≡ has_all_fields_of self other }

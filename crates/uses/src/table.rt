@@ -1,5 +1,5 @@
 // The interface between a line's use table and the book.
-ghost use Rattle.std.specs.Prelude.{◌≡◌, cond, Ok, Err, Some, codes};
+ghost use Rattle.std.specs.Prelude.{◌≡◌, Some, codes};
 ghost use Rattle.uses.specs.Relations.{Relations, UseLaws};
 ghost use Rattle.uses.specs.Checked.{checked};
 

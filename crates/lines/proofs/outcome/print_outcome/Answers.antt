@@ -2,7 +2,7 @@ use Rattle.std.proofs.Common.{◌≡◌, ℕ, ◌++◌, length, get_or, [], code
 use Rattle.std.proofs.lemmas.List.{take_all}
 use Rattle.printed.specs.Text.{put_behind}
 use Rattle.printed.proofs.Behind.{behind_fits, behind_behind}
-use Rattle.lines.specs.Words.{words, reply, printed, printed_line, named_lines, named_recalled, named_woken}
+use Rattle.lines.specs.Words.{words, reply_to, printed, printed_line, named_lines, named_recalled, named_woken}
 use Rattle.lines.proofs.Lengths.{Below}
 use Rattle.lines.proofs.NameLines.{lines_same, recalled_places, woken_places, all_fits}
 use Rattle.lines.proofs.outcome.print_outcome.Goals as goal
@@ -26,7 +26,7 @@ returns c =
     let below' : Below 65536 r.sections = λ i. omega (arith, fits_16 i) in
     let long : length r.dispatches ≡ 64 = omega arith in
     let long' : length r.sections ≡ 64 = omega arith in
-    let line = printed_line n (words (reply c.args.outcome)) in
+    let line = printed_line n (words (reply_to c.args.outcome)) in
     let recalls = named_lines n (codes "recall") (named_recalled r) in
     let wakes = named_lines n (codes "wake") (named_woken r) in
     let recalled : c.put_names.new.out ≡ put_behind (c.put_reply.new.out) recalls =

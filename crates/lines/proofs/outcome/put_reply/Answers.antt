@@ -2,19 +2,19 @@ use Rattle.std.proofs.Common.{◌≡◌, ℕ, ◌≤◌, List, length, Result, s
 use Rattle.book.specs.declared.answers.Answer.{Answer}
 use Rattle.printed.specs.Text.{put_behind}
 use Rattle.printed.proofs.Behind.{behind_behind}
-use Rattle.lines.specs.Words.{words, reply}
+use Rattle.lines.specs.Words.{words, reply_to}
 use Rattle.lines.specs.declared.fault.Fault.{Fault}
 use Rattle.lines.proofs.Lengths.{answer_short, line_short}
 use Rattle.lines.proofs.outcome.put_reply.Goals as goal
 use Rattle.lines.proofs.outcome.put_reply.Goals.{in-Ok, in-Err}
 
 -- the words of equal outcomes
-same-words : {o p : Result Answer Fault} → o ≡ p → words (reply p) ≡ words (reply o)
-same-words e = sym (ap (λ (o : Result Answer Fault). words (reply o)) e)
+same-words : {o p : Result Answer Fault} → o ≡ p → words (reply_to p) ≡ words (reply_to o)
+same-words e = sym (ap (λ (o : Result Answer Fault). words (reply_to o)) e)
 
 pub returns : goal.returns
 returns c =
-    let ws = words (reply c.args.outcome) in
+    let ws = words (reply_to c.args.outcome) in
     let done : (c.match-outcome.out ≡ put_behind c.put.new.self ws) × (length ws ≤ 16) =
     elim c.match-outcome.branch [
       | in-Ok w ↦

@@ -1,36 +1,27 @@
-use Rattle.std.proofs.Common.{refl}
-use Rattle.std.proofs.lemmas.Result.{err_from_is_err_and}
+use Rattle.std.proofs.Common.{Ok, refl}
 use Rattle.model.specs.declared.call.Call.TheVariants as call
 use Rattle.book.specs.Held.{state}
-use Rattle.book.proofs.Carrying.{carried_refused, carried_end, kept}
+use Rattle.book.specs.declared.answers.Answer.TheVariants as answer
+use Rattle.book.proofs.Carrying.{carried_end, kept, CarriedOutIn, done_refused}
+use Rattle.book.proofs.book.Book.close.Given as given
 use Rattle.book.proofs.book.Book.close.Goals as goal
+use Rattle.book.proofs.book.Book.close.Goals.{After-end}
 
 pub returns-in_err-number : goal.returns-in_err-number
 returns-in_err-number g c =
+    done_refused g.T.UseTable.meaning g.O.RecallOrder.meaning c.args.self.now (call.Close c.args.dispatch) _ c.from_residual.result c.in_err-number.field-0.0 c.empty.result c.from_residual.ensures.1 c.in_err-number.ensures c.empty.ensures refl refl
+
+-- the dispatch is ended
+carried : (g : given.Over) (c : After-end g) → CarriedOutIn g.T.UseTable.meaning g.O.RecallOrder.meaning c.args.self.now (call.Close c.args.dispatch) (Ok answer.Ok) c.end.result (state c.end.new.self)
+carried g c =
     let b = c.args.self.now in
-    let p = err_from_is_err_and c.from_residual.result c.from_residual.ensures.1 in
-    rw (p.1, p.2)
-    (record {
-      carried = carried_refused (g.T.UseTable.meaning b.policy.table) (g.O.RecallOrder.meaning b.policy.order) (state b.tables) (call.Close c.args.dispatch) c.in_err-number.field-0.0 c.empty.result (state b.tables) c.in_err-number.ensures c.empty.ensures refl;
-      policy = refl;
-    })
+    let passed = c.in_ok-number.ensures in
+    carried_end (g.T.UseTable.meaning b.policy.table) (g.O.RecallOrder.meaning b.policy.order) (state b.tables) (call.Close c.args.dispatch) c.args.dispatch c.in_ok-number.number c.end.result (state c.end.new.self) passed.0 refl passed.1 c.end.ensures.named c.end.ensures.after
 
 pub invariant_of-self-2 : goal.invariant_of-self-2
 invariant_of-self-2 g c =
     let b = c.args.self.now in
-    let u = g.T.UseTable.meaning b.policy.table in
-    let o = g.O.RecallOrder.meaning b.policy.order in
-    let asked = call.Close c.args.dispatch in
-    let passed = c.in_ok-number.ensures in
-    record { kept = kept u o (g.met.O.RecallOrder.lawful b.policy.order) (state b.tables) asked b.kept (carried_end u o (state b.tables) asked c.args.dispatch c.in_ok-number.number c.end.result (state c.end.new.self) passed.0 refl passed.1 c.end.ensures.named c.end.ensures.after) }
+    record { kept = kept (g.T.UseTable.meaning b.policy.table) (g.O.RecallOrder.meaning b.policy.order) (g.met.O.RecallOrder.lawful b.policy.order) (state b.tables) (call.Close c.args.dispatch) b.kept (carried g (goal.at.invariant_of-self-2 g c).After-end) }
 
 pub returns : goal.returns
-returns g c =
-    let b = c.args.self.now in
-    let u = g.T.UseTable.meaning b.policy.table in
-    let o = g.O.RecallOrder.meaning b.policy.order in
-    let passed = c.in_ok-number.ensures in
-    record {
-      carried = carried_end u o (state b.tables) (call.Close c.args.dispatch) c.args.dispatch c.in_ok-number.number c.end.result (state c.end.new.self) passed.0 refl passed.1 c.end.ensures.named c.end.ensures.after;
-      policy = refl;
-    }
+returns g c = record { carried = carried g (goal.at.returns g c).After-end; policy = refl }

@@ -23,7 +23,7 @@ returns-in-Periodic g c =
     let o = g.O.RecallOrder.meaning c.args.policy.now.order in
     subst (λ (x : Detection). EntersWith u (state b) c.args.claim (after_entry u o x (entered c.args.claim (state b))) answer.Waits c.empty.result (state c.enter.new.self)) (sym c.in-Periodic.is)
     (record {
-      answered = sym (ap (λ (e : Effect). e.answer) (blocked_does u o (g.met.O.RecallOrder.lawful c.args.policy.now.order) (state b) c.args.claim c.requires.runs c.requires.taken));
+      answered = sym (ap (λ (e : Effect). e.answer) (blocked_does u o (g.met.O.RecallOrder.lawful c.args.policy.now.order) (state b) c.args.claim c.requires.runs c.requires.blocked));
       named = c.empty.ensures ∙ ap (filled []) (sym (woken_entered u (state b) c.args.claim));
       left = c.enter.ensures;
     })

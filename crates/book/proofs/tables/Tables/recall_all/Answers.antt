@@ -34,7 +34,10 @@ pub name_recalled-requires : goal.name_recalled-requires
 name_recalled-requires g c =
     let t = c.loop-turn.invariant in
     let same : c.loop-turn.report.recalled ≡ length t.so_far = ap (λ (r : Report). r.recalled) t.named_so in
-    omega (arith, same, t.count, c.loop-turn-test.true)
+    record {
+      room = omega (arith, same, t.count, c.loop-turn-test.true);
+      none = ap (λ (r : Report). r.woken) t.named_so;
+    }
 
 pub loop-turn-preserved : goal.loop-turn-preserved
 loop-turn-preserved g c =
@@ -46,7 +49,7 @@ loop-turn-preserved g c =
     let d = c.in-Some.dispatch in
     let who : ◌≡◌ {A = Named} (record { dispatch = d; section = c.unwrap_or-section.result }) (named u (state b) d) = ap (name d) (c.unwrap_or-section.ensures ∙ ap (λ (v : Option ℕ). unwrap_or v 65535) c.waiting_section-waiting.ensures) in
     let more : (rs : List Named) → c.loop-turn.report ≡ filled rs [] → c.name_recalled.new.self ≡ filled (rs ++ named u (state b) d ∷ []) [] =
-    λ rs is. c.name_recalled.ensures rs is ∙ ap (λ (n : Named). filled (rs ++ n ∷ []) []) who
+    λ rs is. c.name_recalled.ensures.named rs is ∙ ap (λ (n : Named). filled (rs ++ n ∷ []) []) who
     in
     let turned =
     turned_more u o (state b₀) (state b) c.loop-turn._turn c.loop-turn.report c.name_recalled.new.self d low (sym c.victim.ensures ∙ c.in-Some.is)

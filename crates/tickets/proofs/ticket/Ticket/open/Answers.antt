@@ -4,22 +4,19 @@ use Rattle.model.specs.declared.call.Call.TheVariants as call
 use Rattle.model.proofs.Steps.{passed_opening}
 use Rattle.book.specs.Held.{state}
 use Rattle.book.specs.declared.answers.Answer.TheVariants as answer
-use Rattle.book.proofs.GoesOn.{goes_on}
-use Rattle.tickets.proofs.Passing.{passed, answered_ok}
+use Rattle.book.proofs.GoesOn.{keeps_law}
+use Rattle.tickets.proofs.Passing.{passed, done_ok}
 use Rattle.tickets.proofs.ticket.Ticket.open.Goals as goal
 
 pub returns-in_err-open : goal.returns-in_err-open
 returns-in_err-open g c =
-    let b = c.args.book.now in
-    let u = g.T.UseTable.meaning b.policy.table in
-    let o = g.O.RecallOrder.meaning b.policy.order in
     let does = c.in_err-open.ensures in
     let p = err_from_is_err_and c.from_residual.result c.from_residual.ensures.1 in
     rw (p.1, p.2)
     (record {
       named = tt;
       done = does;
-      law = goes_on u (g.met.T.UseTable.lawful b.policy.table) o (g.met.O.RecallOrder.lawful b.policy.order) (state b.tables) (call.Open c.args.dispatch c.args.weight) (Err c.in_err-open.field-0.0) c.open.new.report (state c.open.new.self.tables) does.carried;
+      law = keeps_law g.T.UseTable.meaning g.met.T.UseTable.lawful g.O.RecallOrder.meaning g.met.O.RecallOrder.lawful c.args.book.now c.open.new.self (call.Open c.args.dispatch c.args.weight) (Err c.in_err-open.field-0.0) c.open.new.report does;
     })
 
 pub invariant_of-result : goal.invariant_of-result
@@ -35,12 +32,10 @@ invariant_of-result g c =
 pub returns : goal.returns
 returns g c =
     let b = c.args.book.now in
-    let u = g.T.UseTable.meaning b.policy.table in
-    let o = g.O.RecallOrder.meaning b.policy.order in
     let asked = call.Open c.args.dispatch c.args.weight in
-    let does = answered_ok u o (state b.tables) asked c.open.new.report (state c.open.new.self.tables) c.in_ok-open.field-0 refl c.in_ok-open.ensures.carried in
+    let does = done_ok g.T.UseTable.meaning g.O.RecallOrder.meaning b c.open.new.self asked c.open.new.report c.in_ok-open.field-0 refl c.in_ok-open.ensures in
     record {
       named = refl;
-      done = record { carried = does; policy = c.in_ok-open.ensures.policy };
-      law = goes_on u (g.met.T.UseTable.lawful b.policy.table) o (g.met.O.RecallOrder.lawful b.policy.order) (state b.tables) asked (Ok answer.Ok) c.open.new.report (state c.open.new.self.tables) does;
+      done = does;
+      law = keeps_law g.T.UseTable.meaning g.met.T.UseTable.lawful g.O.RecallOrder.meaning g.met.O.RecallOrder.lawful b c.open.new.self asked (Ok answer.Ok) c.open.new.report does;
     }
