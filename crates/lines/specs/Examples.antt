@@ -9,7 +9,7 @@ use Rattle.book.specs.declared.answers.Answer.TheVariants as answer
 use Rattle.book.specs.declared.answers.Refusal.TheVariants.{NumberTooHigh, SectionTooHigh, NotKnown, WeightTooHigh, IsRecalled, IsOpen, IsFree, IsWaiting, NoRoom, NotRecalled}
 use Rattle.lines.specs.Faults.{fault_place}
 use Rattle.lines.specs.Reading.{Reading}
-use Rattle.lines.specs.Words.{printed, reply}
+use Rattle.lines.specs.Words.{printed, reply_to}
 use Rattle.lines.specs.declared.fault.Fault.{Fault}
 use Rattle.lines.specs.declared.fault.Fault.TheVariants.{TooManyLines, TooLong, NoLetter, WrongForm, Refused}
 
@@ -50,7 +50,7 @@ pub record Printing : Type 0 where
 
 -- that text is printed
 abbrev pub IsPrinted : Printing → Type 0
-IsPrinted x = printed x.number (reply x.outcome) x.recalls x.wakes ≡ x.text
+IsPrinted x = printed x.number (reply_to x.outcome) x.recalls x.wakes ≡ x.text
 
 -- an outcome with nobody recalled or woken
 abbrev pub alone : ℕ → Result Answer Fault → List ℕ → Printing

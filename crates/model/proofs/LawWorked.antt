@@ -9,7 +9,7 @@ use Rattle.model.specs.Graph.{closure, Chain}
 use Rattle.model.specs.Claims.{waits_for}
 use Rattle.model.specs.Recalling.{on_cycles, recalling_at_most, recalling}
 use Rattle.model.specs.Calls.{step}
-use Rattle.model.specs.Runs.{at, Grants, granted, covered, woken, Granted, just_now, before}
+use Rattle.model.specs.Runs.{at, Grants, by_grant, by_cover, by_wake, Granted, just_now, before}
 use Rattle.model.specs.Law.{Exclusion, WaitsEnd}
 use Rattle.model.specs.Examples.{look, move}
 use Rattle.model.specs.LawExamples.{LawExamplesRight, one_waits_run, two_stations_run, covered_run, one_sided, one_sided_run}
@@ -19,24 +19,24 @@ use Rattle.model.specs.declared.state.Detection.TheVariants.{Continuous, Periodi
 
 by_answer : Granted two_uses newest (two_stations_run Continuous) 1 10 move
 unfolding step closure on_cycles recalling_at_most recalling
-by_answer = before (before (before (just_now (granted refl refl) refl) refl) refl) refl
+by_answer = before (before (before (just_now (by_grant refl refl) refl) refl) refl) refl
 
 by_waking : Granted two_uses newest (two_stations_run Continuous) 1 11 move
 unfolding step closure on_cycles recalling_at_most recalling
-by_waking = let wakes : Grants two_uses newest (one_waits_run Continuous) (Claim 2 10 move) 1 11 move = woken refl refl in just_now wakes refl
+by_waking = let wakes : Grants two_uses newest (one_waits_run Continuous) (Claim 2 10 move) 1 11 move = by_wake refl refl in just_now wakes refl
 
 by_covering : Granted two_uses newest covered_run 1 10 look
 unfolding step closure on_cycles recalling_at_most recalling
-by_covering = just_now (covered refl refl) refl
+by_covering = just_now (by_cover refl refl) refl
 
 exclusion_broken : Exclusion one_sided newest one_sided_run → ⊥
 unfolding step closure on_cycles recalling_at_most recalling
 exclusion_broken h =
-    false≢true (sym (h 2 1 7 move look (λ e. omega (arith, e)) (just_now (granted refl refl) refl) (before (just_now (granted refl refl) refl) refl)))
+    false≢true (sym (h 2 1 7 move look (λ e. omega (arith, e)) (just_now (by_grant refl refl) refl) (before (just_now (by_grant refl refl) refl) refl)))
 
 by_closing : Granted two_uses newest (two_stations_run Periodic) 2 11 move
 unfolding step closure on_cycles recalling_at_most recalling
-by_closing = before (before (just_now (granted refl refl) refl) refl) refl
+by_closing = before (before (just_now (by_grant refl refl) refl) refl) refl
 
 not_recalled : Granted two_uses newest (two_stations_run Continuous) 2 11 move → ⊥
 unfolding step closure on_cycles recalling_at_most recalling
