@@ -1,6 +1,6 @@
 // Handing a ticket in, however its dispatch stands. A ticket cannot be let go, so each trial hands it
 // in before it looks at what was answered.
-use crate::trial::Trial;
+use crate::trial::{Outcome, Trial};
 use book::answers::{Answer, Refusal};
 use model::state::Condition;
 use std::process::Abort;
@@ -16,6 +16,22 @@ fn another_holds_eleven(rt: &impl Abort) -> Trial {
     trial
 }
 
+// Checks what the calls that were made are answered.
+fn check_answers(rt: &impl Abort, made: &[Outcome], expected: &[Outcome]) {
+    assert_eq!(rt; made, expected);
+}
+
+// Checks how the ticket's dispatch ended, and that its number, 1, is free.
+fn check_ending(
+    rt: &impl Abort,
+    trial: &Trial,
+    ended: Result<Ending, Refusal>,
+    expected: Result<Ending, Refusal>,
+) {
+    assert_eq!(rt; ended, expected);
+    assert_eq!(rt; trial.condition(1), Ok(Condition::Free));
+}
+
 #[test]
 fn a_running_dispatch_is_closed(rt: HostRuntime) -> Result<(), Fail> {
     let mut trial = Trial::new();
@@ -24,9 +40,8 @@ fn a_running_dispatch_is_closed(rt: HostRuntime) -> Result<(), Fail> {
     let claimed = trial.claim_by(&ticket, 10, MOVE);
     let ended = trial.hand_in(ticket);
     assert_eq!(rt; named, 1);
-    assert_eq!(rt; claimed, Ok(Answer::Granted));
-    assert_eq!(rt; ended, Ok(Ending::Closed));
-    assert_eq!(rt; trial.condition(1), Ok(Condition::Free));
+    check_answers(&rt, &[claimed], &[Ok(Answer::Granted)]);
+    check_ending(&rt, &trial, ended, Ok(Ending::Closed));
     Ok(())
 }
 
@@ -36,9 +51,8 @@ fn a_waiting_dispatch_is_withdrawn(rt: HostRuntime) -> Result<(), Fail> {
     let ticket = trial.open_ticket(1, 5)?;
     let claimed = trial.claim_by(&ticket, 11, MOVE);
     let ended = trial.hand_in(ticket);
-    assert_eq!(rt; claimed, Ok(Answer::Waits));
-    assert_eq!(rt; ended, Ok(Ending::Withdrawn));
-    assert_eq!(rt; trial.condition(1), Ok(Condition::Free));
+    check_answers(&rt, &[claimed], &[Ok(Answer::Waits)]);
+    check_ending(&rt, &trial, ended, Ok(Ending::Withdrawn));
     Ok(())
 }
 
@@ -50,11 +64,9 @@ fn a_recalled_dispatch_is_acknowledged(rt: HostRuntime) -> Result<(), Fail> {
     let other = trial.claim(2, 10, MOVE);
     let second = trial.claim_by(&ticket, 11, MOVE);
     let ended = trial.hand_in(ticket);
-    assert_eq!(rt; first, Ok(Answer::Granted));
-    assert_eq!(rt; other, Ok(Answer::Waits));
-    assert_eq!(rt; second, Ok(Answer::Recalled));
-    assert_eq!(rt; ended, Ok(Ending::Acknowledged));
-    assert_eq!(rt; trial.condition(1), Ok(Condition::Free));
+    let expected = [Ok(Answer::Granted), Ok(Answer::Waits), Ok(Answer::Recalled)];
+    check_answers(&rt, &[first, other, second], &expected);
+    check_ending(&rt, &trial, ended, Ok(Ending::Acknowledged));
     Ok(())
 }
 
@@ -64,10 +76,9 @@ fn a_number_that_has_become_free_is_refused(rt: HostRuntime) -> Result<(), Fail>
     let ticket = trial.open_ticket(1, 5)?;
     let closed = trial.close(1);
     let ended = trial.hand_in(ticket);
-    assert_eq!(rt; closed, Ok(Answer::Ok));
-    assert_eq!(rt; ended, Err(Refusal::IsFree));
-    assert_eq!(rt; trial.report.recalled, 0);
-    assert_eq!(rt; trial.report.woken, 0);
+    check_answers(&rt, &[closed], &[Ok(Answer::Ok)]);
+    check_ending(&rt, &trial, ended, Err(Refusal::IsFree));
+    assert_eq!(rt; [trial.report.recalled, trial.report.woken], [0, 0]);
     assert_eq!(rt; trial.condition(2), Ok(Condition::Running));
     Ok(())
 }
@@ -80,10 +91,8 @@ fn a_number_opened_again_is_what_the_ticket_names(rt: HostRuntime) -> Result<(),
     let opened = trial.open(1, 7);
     let claimed = trial.claim(1, 11, MOVE);
     let ended = trial.hand_in(ticket);
-    assert_eq!(rt; closed, Ok(Answer::Ok));
-    assert_eq!(rt; opened, Ok(Answer::Ok));
-    assert_eq!(rt; claimed, Ok(Answer::Waits));
-    assert_eq!(rt; ended, Ok(Ending::Withdrawn));
-    assert_eq!(rt; trial.condition(1), Ok(Condition::Free));
+    let expected = [Ok(Answer::Ok), Ok(Answer::Ok), Ok(Answer::Waits)];
+    check_answers(&rt, &[closed, opened, claimed], &expected);
+    check_ending(&rt, &trial, ended, Ok(Ending::Withdrawn));
     Ok(())
 }

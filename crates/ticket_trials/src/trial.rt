@@ -7,6 +7,9 @@ use orders::single::Newest;
 use tickets::ticket::{Ending, Ticket};
 use uses::two_uses::TwoUses;
 
+// What a call is answered.
+pub(crate) type Outcome = Result<Answer, Refusal>;
+
 // A book, and the report that each of its calls fills.
 // Kept: beside the trial of the crate `trials`, which is part of its tests alone. To take it from
 // there this crate would have to stand on the console too, and the trial would have to be public.
@@ -31,12 +34,7 @@ impl Trial {
     }
 
     // The call `claim` of a ticket.
-    pub(crate) fn claim_by(
-        &mut self,
-        ticket: &Ticket,
-        section: u32,
-        mode: u32,
-    ) -> Result<Answer, Refusal> {
+    pub(crate) fn claim_by(&mut self, ticket: &Ticket, section: u32, mode: u32) -> Outcome {
         ticket.claim(&mut self.book, section, mode, &mut self.report)
     }
 
@@ -46,22 +44,17 @@ impl Trial {
     }
 
     // The call `open` of the book, which gives no ticket.
-    pub(crate) fn open(&mut self, dispatch: u32, weight: u32) -> Result<Answer, Refusal> {
+    pub(crate) fn open(&mut self, dispatch: u32, weight: u32) -> Outcome {
         self.book.open(dispatch, weight, &mut self.report)
     }
 
     // The call `claim` of the book.
-    pub(crate) fn claim(
-        &mut self,
-        dispatch: u32,
-        section: u32,
-        mode: u32,
-    ) -> Result<Answer, Refusal> {
+    pub(crate) fn claim(&mut self, dispatch: u32, section: u32, mode: u32) -> Outcome {
         self.book.claim(dispatch, section, mode, &mut self.report)
     }
 
     // The call `close` of the book.
-    pub(crate) fn close(&mut self, dispatch: u32) -> Result<Answer, Refusal> {
+    pub(crate) fn close(&mut self, dispatch: u32) -> Outcome {
         self.book.close(dispatch, &mut self.report)
     }
 

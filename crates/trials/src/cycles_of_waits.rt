@@ -1,16 +1,19 @@
 // Cycles of waits through all 64 dispatches.
-use crate::trial::Trial;
+use crate::trial::{Trial, claim};
 use book::answers::Answer;
+use model::call::Call;
 use model::report::Report;
 use model::state::{Condition, Detection};
 use std::process::Abort;
-use std::test::Fail;
 use uses::two_uses::{LOOK, MOVE};
 
 // Each dispatch moves on the section of its number.
 fn move_on_own(rt: &impl Abort, trial: &mut Trial) {
     for dispatch in 0..64 {
-        assert_eq!(rt; trial.claim(dispatch, dispatch, MOVE), Ok(Answer::Granted));
+        assert_eq!(rt;
+            trial.make(claim(dispatch, dispatch, MOVE)),
+            Ok(Answer::Granted)
+        );
     }
 }
 
@@ -18,11 +21,18 @@ fn move_on_own(rt: &impl Abort, trial: &mut Trial) {
 fn want_next(rt: &impl Abort, trial: &mut Trial) {
     for dispatch in 0..63 {
         assert_eq!(rt;
-            trial.claim(dispatch, dispatch + 1, MOVE),
+            trial.make(claim(dispatch, dispatch + 1, MOVE)),
             Ok(Answer::Waits)
         );
         assert_eq!(rt; trial.report.recalled, 0);
     }
+}
+
+// The last of the 64 is recalled, and who waited for it goes on.
+fn check_one_recall(rt: &impl Abort, report: &Report) {
+    assert_eq!(rt; [report.recalled, report.woken], [1, 1]);
+    assert_eq!(rt; &report.dispatches[..3], [63, 62, 255].as_slice());
+    assert_eq!(rt; &report.sections[..3], [0, 63, 65535].as_slice());
 }
 
 #[test]
@@ -31,20 +41,14 @@ fn the_newest_of_a_cycle_of_64_is_recalled(rt: HostRuntime) {
     assert_eq!(rt; trial.open_all(64), Ok(Answer::Ok));
     move_on_own(&rt, &mut trial);
     want_next(&rt, &mut trial);
-    assert_eq!(rt; trial.claim(63, 0, MOVE), Ok(Answer::Recalled));
-    assert_eq!(rt; trial.report.recalled, 1);
-    assert_eq!(rt; trial.report.dispatches[0], 63);
-    assert_eq!(rt; trial.report.sections[0], 0);
-    assert_eq!(rt; trial.report.woken, 1);
-    assert_eq!(rt; trial.report.dispatches[1], 62);
-    assert_eq!(rt; trial.report.sections[1], 63);
-    assert_eq!(rt; trial.report.dispatches[2], 255);
+    trial.play(&rt, &[(claim(63, 0, MOVE), Ok(Answer::Recalled))]);
+    check_one_recall(&rt, &trial.report);
 }
 
 // Each dispatch claims section 7 for the use, and is given the answer.
 fn claim_seven(rt: &impl Abort, trial: &mut Trial, mode: u32, answer: Answer) {
     for dispatch in 0..64 {
-        assert_eq!(rt; trial.claim(dispatch, 7, mode), Ok(answer));
+        assert_eq!(rt; trial.make(claim(dispatch, 7, mode)), Ok(answer));
     }
 }
 
@@ -56,16 +60,21 @@ fn check_63_recalls(rt: &impl Abort, report: &Report) {
     assert_eq!(rt; report.sections, [7; 64]);
 }
 
+// Checks how the dispatch stands.
+fn check_condition(rt: &impl Abort, trial: &Trial, dispatch: u32, condition: Condition) {
+    let status = trial.book.condition(dispatch);
+    assert_eq!(rt; status.map(|s| s.condition), Ok(condition));
+}
+
 #[test]
-fn one_sweep_recalls_63(rt: HostRuntime) -> Result<(), Fail> {
+fn one_sweep_recalls_63(rt: HostRuntime) {
     let mut trial = Trial::new(Detection::Periodic);
     assert_eq!(rt; trial.open_all(64), Ok(Answer::Ok));
     claim_seven(&rt, &mut trial, LOOK, Answer::Granted);
     claim_seven(&rt, &mut trial, MOVE, Answer::Waits);
-    assert_eq!(rt; trial.sweep(), Ok(Answer::Ok));
+    trial.play(&rt, &[(Call::Sweep, Ok(Answer::Ok))]);
     check_63_recalls(&rt, &trial.report);
-    assert_eq!(rt; trial.book.condition(0)?.condition, Condition::Running);
-    assert_eq!(rt; trial.book.condition(1)?.condition, Condition::Recalled);
-    assert_eq!(rt; trial.book.condition(63)?.condition, Condition::Recalled);
-    Ok(())
+    check_condition(&rt, &trial, 0, Condition::Running);
+    check_condition(&rt, &trial, 1, Condition::Recalled);
+    check_condition(&rt, &trial, 63, Condition::Recalled);
 }

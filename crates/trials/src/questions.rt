@@ -1,5 +1,5 @@
 // The three questions, on a small book.
-use crate::trial::Trial;
+use crate::trial::{Trial, claim};
 use book::answers::{Answer, Refusal};
 use book::questions::Status;
 use marks::Marks;
@@ -9,11 +9,14 @@ use uses::two_uses::{LOOK, MOVE};
 
 // Dispatches 1 and 2 look at section 10, dispatch 0 waits to move there; dispatch 3 is free.
 fn small_book(rt: &impl Abort) -> Trial {
+    let calls = [
+        (claim(1, 10, LOOK), Ok(Answer::Granted)),
+        (claim(2, 10, LOOK), Ok(Answer::Granted)),
+        (claim(0, 10, MOVE), Ok(Answer::Waits)),
+    ];
     let mut trial = Trial::new(Detection::Continuous);
     assert_eq!(rt; trial.open_all(3), Ok(Answer::Ok));
-    assert_eq!(rt; trial.claim(1, 10, LOOK), Ok(Answer::Granted));
-    assert_eq!(rt; trial.claim(2, 10, LOOK), Ok(Answer::Granted));
-    assert_eq!(rt; trial.claim(0, 10, MOVE), Ok(Answer::Waits));
+    trial.play(rt, &calls);
     trial
 }
 
@@ -25,53 +28,74 @@ fn one_and_two() -> Marks {
     marks
 }
 
+// Checks how the dispatch stands, and for which section it waits.
+fn check_status(
+    rt: &impl Abort,
+    trial: &Trial,
+    dispatch: u32,
+    condition: Condition,
+    waiting_section: Option<u16>,
+) {
+    let status = Status {
+        condition,
+        waiting_section,
+    };
+    assert_eq!(rt; trial.book.condition(dispatch), Ok(status));
+}
+
 #[test]
 fn how_does_a_dispatch_stand(rt: HostRuntime) {
-    let Trial { book, .. } = small_book(&rt);
-    let waiting = Status {
-        condition: Condition::Waiting,
-        waiting_section: Some(10),
-    };
-    let running = Status {
-        condition: Condition::Running,
-        waiting_section: None,
-    };
-    let free = Status {
-        condition: Condition::Free,
-        waiting_section: None,
-    };
-    assert_eq!(rt; book.condition(0), Ok(waiting));
-    assert_eq!(rt; book.condition(1), Ok(running));
-    assert_eq!(rt; book.condition(3), Ok(free));
-    assert_eq!(rt; book.condition(64), Err(Refusal::NumberTooHigh));
+    let trial = small_book(&rt);
+    check_status(&rt, &trial, 0, Condition::Waiting, Some(10));
+    check_status(&rt, &trial, 1, Condition::Running, None);
+    check_status(&rt, &trial, 3, Condition::Free, None);
+    assert_eq!(rt; trial.book.condition(64), Err(Refusal::NumberTooHigh));
+}
+
+// Checks for whom the dispatch waits, and what is answered.
+fn check_waited_for(
+    rt: &impl Abort,
+    trial: &Trial,
+    dispatch: u32,
+    found: Marks,
+    answer: Result<(), Refusal>,
+) {
+    let mut marks = one_and_two();
+    assert_eq!(rt; trial.book.waited_for(dispatch, &mut marks), answer);
+    assert_eq!(rt; marks, found);
 }
 
 #[test]
 fn for_whom_does_a_dispatch_wait(rt: HostRuntime) {
-    let Trial { book, .. } = small_book(&rt);
-    let mut marks = Marks::none();
-    assert_eq!(rt; book.waited_for(1, &mut marks), Ok(()));
-    assert_eq!(rt; marks, Marks::none());
-    assert_eq!(rt; book.waited_for(0, &mut marks), Ok(()));
-    assert_eq!(rt; marks, one_and_two());
-    assert_eq!(rt;
-        book.waited_for(64, &mut marks),
-        Err(Refusal::NumberTooHigh)
-    );
-    assert_eq!(rt; marks, Marks::none());
+    let trial = small_book(&rt);
+    check_waited_for(&rt, &trial, 1, Marks::none(), Ok(()));
+    check_waited_for(&rt, &trial, 0, one_and_two(), Ok(()));
+    check_waited_for(&rt, &trial, 64, Marks::none(), Err(Refusal::NumberTooHigh));
+}
+
+// Checks who holds the section, and what is answered.
+fn check_holders(
+    rt: &impl Abort,
+    trial: &Trial,
+    section: u32,
+    found: Marks,
+    answer: Result<(), Refusal>,
+) {
+    let mut marks = one_and_two();
+    assert_eq!(rt; trial.book.holders(section, &mut marks), answer);
+    assert_eq!(rt; marks, found);
 }
 
 #[test]
 fn who_holds_a_section(rt: HostRuntime) {
-    let Trial { book, .. } = small_book(&rt);
-    let mut marks = Marks::none();
-    assert_eq!(rt; book.holders(11, &mut marks), Ok(()));
-    assert_eq!(rt; marks, Marks::none());
-    assert_eq!(rt; book.holders(10, &mut marks), Ok(()));
-    assert_eq!(rt; marks, one_and_two());
-    assert_eq!(rt;
-        book.holders(1024, &mut marks),
-        Err(Refusal::SectionTooHigh)
+    let trial = small_book(&rt);
+    check_holders(&rt, &trial, 11, Marks::none(), Ok(()));
+    check_holders(&rt, &trial, 10, one_and_two(), Ok(()));
+    check_holders(
+        &rt,
+        &trial,
+        1024,
+        Marks::none(),
+        Err(Refusal::SectionTooHigh),
     );
-    assert_eq!(rt; marks, Marks::none());
 }

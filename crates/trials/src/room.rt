@@ -1,5 +1,5 @@
 // A book with all its claims.
-use crate::trial::Trial;
+use crate::trial::{Trial, claim, close};
 use book::answers::{Answer, Refusal};
 use model::state::Detection;
 use std::ops::Range;
@@ -9,7 +9,10 @@ use uses::two_uses::{LOOK, MOVE};
 // The dispatch moves on each of the sections.
 fn claim_each(rt: &impl Abort, trial: &mut Trial, dispatch: u32, sections: Range<u32>) {
     for section in sections {
-        assert_eq!(rt; trial.claim(dispatch, section, MOVE), Ok(Answer::Granted));
+        assert_eq!(rt;
+            trial.make(claim(dispatch, section, MOVE)),
+            Ok(Answer::Granted)
+        );
     }
 }
 
@@ -25,18 +28,23 @@ fn full_book(rt: &impl Abort) -> Trial {
 
 #[test]
 fn the_513th_claim_is_refused(rt: HostRuntime) {
-    let mut trial = full_book(&rt);
     // free, held by another, and covered
-    assert_eq!(rt; trial.claim(0, 600, LOOK), Err(Refusal::NoRoom));
-    assert_eq!(rt; trial.claim(0, 8, LOOK), Err(Refusal::NoRoom));
-    assert_eq!(rt; trial.claim(0, 7, LOOK), Ok(Answer::Covered));
+    let calls = [
+        (claim(0, 600, LOOK), Err(Refusal::NoRoom)),
+        (claim(0, 8, LOOK), Err(Refusal::NoRoom)),
+        (claim(0, 7, LOOK), Ok(Answer::Covered)),
+    ];
+    full_book(&rt).play(&rt, &calls);
 }
 
 #[test]
 fn a_close_makes_room_for_its_eight(rt: HostRuntime) {
     let mut trial = full_book(&rt);
-    assert_eq!(rt; trial.close(63), Ok(Answer::Ok));
+    trial.play(&rt, &[(close(63), Ok(Answer::Ok))]);
     claim_each(&rt, &mut trial, 0, 504..512);
-    assert_eq!(rt; trial.claim(0, 600, MOVE), Err(Refusal::NoRoom));
-    assert_eq!(rt; trial.claim(0, 511, MOVE), Ok(Answer::Covered));
+    let calls = [
+        (claim(0, 600, MOVE), Err(Refusal::NoRoom)),
+        (claim(0, 511, MOVE), Ok(Answer::Covered)),
+    ];
+    trial.play(&rt, &calls);
 }

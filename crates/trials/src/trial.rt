@@ -2,10 +2,15 @@
 use crate::setting::{new_book, open_all};
 use book::answers::{Answer, Refusal};
 use book::book::Book;
+use model::call::Call;
 use model::report::Report;
 use model::state::Detection;
 use orders::single::Newest;
+use std::process::Abort;
 use uses::two_uses::TwoUses;
+
+// What a call is answered.
+pub(crate) type Outcome = Result<Answer, Refusal>;
 
 // A book, and the report that each of its calls fills.
 #[derive(Drop)]
@@ -14,7 +19,6 @@ pub(crate) struct Trial {
     pub(crate) report: Report,
 }
 
-// Each call is the book's, with the report of the trial.
 impl Trial {
     // A new book, and a report that names nobody.
     pub(crate) fn new(detection: Detection) -> Trial {
@@ -25,36 +29,43 @@ impl Trial {
     }
 
     // Opens the dispatches below `count`, in the order of their numbers.
-    pub(crate) fn open_all(&mut self, count: u32) -> Result<Answer, Refusal> {
+    pub(crate) fn open_all(&mut self, count: u32) -> Outcome {
         open_all(&mut self.book, count, &mut self.report)
     }
 
-    pub(crate) fn open(&mut self, dispatch: u32, weight: u32) -> Result<Answer, Refusal> {
-        self.book.open(dispatch, weight, &mut self.report)
+    // Makes a call.
+    pub(crate) fn make(&mut self, call: Call) -> Outcome {
+        self.book.carry_out(call, &mut self.report)
     }
 
-    pub(crate) fn claim(
-        &mut self,
-        dispatch: u32,
-        section: u32,
-        mode: u32,
-    ) -> Result<Answer, Refusal> {
-        self.book.claim(dispatch, section, mode, &mut self.report)
+    // Makes calls one after another, and checks what each is answered.
+    pub(crate) fn play(&mut self, rt: &impl Abort, calls: &[(Call, Outcome)]) {
+        for (call, outcome) in calls {
+            assert_eq!(rt; self.make(*call), *outcome);
+        }
     }
+}
 
-    pub(crate) fn close(&mut self, dispatch: u32) -> Result<Answer, Refusal> {
-        self.book.close(dispatch, &mut self.report)
-    }
+pub(crate) fn open(dispatch: u32, weight: u32) -> Call {
+    Call::Open { dispatch, weight }
+}
 
-    pub(crate) fn withdraw(&mut self, dispatch: u32) -> Result<Answer, Refusal> {
-        self.book.withdraw(dispatch, &mut self.report)
+pub(crate) fn claim(dispatch: u32, section: u32, mode: u32) -> Call {
+    Call::Claim {
+        dispatch,
+        section,
+        mode,
     }
+}
 
-    pub(crate) fn acknowledge(&mut self, dispatch: u32) -> Result<Answer, Refusal> {
-        self.book.acknowledge(dispatch, &mut self.report)
-    }
+pub(crate) fn close(dispatch: u32) -> Call {
+    Call::Close { dispatch }
+}
 
-    pub(crate) fn sweep(&mut self) -> Result<Answer, Refusal> {
-        self.book.sweep(&mut self.report)
-    }
+pub(crate) fn withdraw(dispatch: u32) -> Call {
+    Call::Withdraw { dispatch }
+}
+
+pub(crate) fn acknowledge(dispatch: u32) -> Call {
+    Call::Acknowledge { dispatch }
 }
