@@ -120,15 +120,11 @@ fn play(rt: &impl Print, book: &mut Book<TwoUses, Newest>, meanwhile: &[Call]) -
 
 fn main(rt: HostRuntime) -> io::Result<()> {
     let mut book = Book::new(TwoUses, Newest, Detection::Continuous);
-    println!(rt; "A STATION THAT TRAVELS BY TICKET")?;
-    println!(rt)?;
-    println!(rt; "The way is free.")?;
+    println!(rt; "A STATION THAT TRAVELS BY TICKET\n\nThe way is free.")?;
     play(&rt, &mut book, &[])?;
-    println!(rt)?;
-    println!(rt; "The far station moves on section {SPAN}.")?;
+    println!(rt; "\nThe far station moves on section {SPAN}.")?;
     far_station(&mut book, &THEY_COME);
     play(&rt, &mut book, &[])?;
-    println!(rt)?;
-    println!(rt; "It still does, and claims section {DOCK} as soon as we are on it.")?;
+    println!(rt; "\nIt still does, and claims section {DOCK} as soon as we are on it.")?;
     play(&rt, &mut book, &THEY_CROSS)
 }

@@ -9,6 +9,14 @@ use uses::spans::{Direction, Span, Spans};
 use uses::table::{UnknownUse, UseTable};
 use uses::{five_uses, two_uses};
 
+// How the charts are read.
+const HOW_TO_READ: &str = "USE TABLES
+
+conflicts: where an x stands, two dispatches cannot hold the two uses
+           of one section side by side, and the later claim waits
+covers:    where an x stands, a dispatch with a claim for the row's use of
+           a section is answered covered when it claims the column's there";
+
 // The rows and columns of the charts.
 const TWO_USES: [two_uses::Use; 2] = [two_uses::Use::Look, two_uses::Use::Move];
 
@@ -156,8 +164,7 @@ fn print_spans(rt: &HostRuntime) -> io::Result<()> {
         from: 5,
         to: 5,
     };
-    println!(rt; "\nSPANS")?;
-    println!(rt; "")?;
+    println!(rt; "\nSPANS\n")?;
     let code = u32::from(up);
     println!(rt; "  {up} is the direction up and the fields 0 to 4; its code is {code}")?;
     print_conflict(rt, up, crossing)?;
@@ -166,12 +173,7 @@ fn print_spans(rt: &HostRuntime) -> io::Result<()> {
 }
 
 fn main(rt: HostRuntime) -> io::Result<()> {
-    println!(rt; "USE TABLES")?;
-    println!(rt; "")?;
-    println!(rt; "conflicts: where an x stands, two dispatches cannot hold the two uses")?;
-    println!(rt; "           of one section side by side, and the later claim waits")?;
-    println!(rt; "covers:    where an x stands, a dispatch with a claim for the row's use of")?;
-    println!(rt; "           a section is answered covered when it claims the column's there")?;
+    println!(rt; "{HOW_TO_READ}")?;
     print_table(&rt, "TWO USES", &two_uses::TwoUses, &TWO_USES)?;
     print_table(&rt, "FIVE USES", &five_uses::FiveUses, &FIVE_USES)?;
     print_spans(&rt)

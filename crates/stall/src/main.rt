@@ -25,6 +25,22 @@ const DOCK_B: u32 = 11;
 
 const WEIGHT: u32 = 5;
 
+// What is told before the calls that lead to the stall.
+const BEFORE_THE_STALL: &str = "THE STALL AT THE DOCKS
+
+Only one dispatch at a time may move on a dock.
+Each station takes its own dock, and then wants the other's.
+So each would wait for the other for ever. The book sees it at the last claim
+and recalls the dispatch that was opened last: all its claims are taken out,
+and the other dispatch goes on.
+";
+
+// What is told before the calls that come after it.
+const BEFORE_THE_END: &str = "
+The dispatch that went on is closed. The recalled one is opened again, and now
+nothing is in its way.
+";
+
 // Each station takes its own dock and then wants the other's.
 const STALL: [Call; 6] = [
     Call::Open {
@@ -109,18 +125,8 @@ fn play_all(rt: &impl Print, book: &mut Book<TwoUses, Newest>, calls: &[Call]) -
 
 fn main(rt: HostRuntime) -> io::Result<()> {
     let mut book = Book::new(TwoUses, Newest, Detection::Continuous);
-    println!(rt; "THE STALL AT THE DOCKS")?;
-    println!(rt)?;
-    println!(rt; "Only one dispatch at a time may move on a dock.")?;
-    println!(rt; "Each station takes its own dock, and then wants the other's.")?;
-    println!(rt; "So each would wait for the other for ever. The book sees it at the last claim")?;
-    println!(rt; "and recalls the dispatch that was opened last: all its claims are taken out,")?;
-    println!(rt; "and the other dispatch goes on.")?;
-    println!(rt)?;
+    println!(rt; "{BEFORE_THE_STALL}")?;
     play_all(&rt, &mut book, &STALL)?;
-    println!(rt)?;
-    println!(rt; "The dispatch that went on is closed. The recalled one is opened again, and now")?;
-    println!(rt; "nothing is in its way.")?;
-    println!(rt)?;
+    println!(rt; "{BEFORE_THE_END}")?;
     play_all(&rt, &mut book, &AFTER)
 }
