@@ -6,7 +6,7 @@ use Rattle.uses.specs.Relations.{Relations}
 use Rattle.model.specs.Recalling.{Order}
 use Rattle.model.specs.declared.state.Detection.{Detection}
 use Rattle.transcripts.specs.Inputs.{line_length, all_bytes}
-use Rattle.transcripts.specs.Stands.{HasRead, Reads, Finishes}
+use Rattle.transcripts.specs.Stands.{HasRead, Reads, LosesAnswer, Finishes}
 use Rattle.transcripts.specs.Transcript.{Transcript}
 use Rattle.transcripts.specs.declared.console.Console.{Console}
 
@@ -62,6 +62,18 @@ read_more m p first now next piece rest bytes left was out text all r splits mor
 -- a rest in two parts, as a slice shows the second
 pub two_parts : (n : ℕ) (rest : List ℕ) → rest ≡ take n rest ++ take (length rest - n) (drop n rest)
 two_parts n rest = sym (take-append-drop n rest) ∙ ap (λ (xs : List ℕ). take n rest ++ xs) (sym (take_rest rest n))
+
+-- a line more is read, and its answer is lost
+pub loses_answer : {T O : Type 0} {tm : _} (m : T → Relations) (p : O → Order) (first now next : Console T O tm) (piece rest bytes left was out text all : List ℕ) → ReadPart m p first now piece rest was out → rest ≡ bytes ++ left → Reads m p now next bytes text → all ≡ out → LosesAnswer m p first next piece was all
+loses_answer m p first now next piece rest bytes left was out text all r splits more stays = record {
+  bytes = r.part ++ bytes;
+  rest = left;
+  text = r.text;
+  lost = text;
+  front = r.whole ∙ (ap (λ (xs : List ℕ). r.part ++ xs) splits ∙ sym (append_assoc r.part bytes left));
+  put = stays ∙ r.printed;
+  read = reads_on m p first now next r.part bytes r.text text r.policy r.reads more;
+}
 
 -- the whole piece is read
 pub read_whole : {T O : Type 0} {tm : _} (m : T → Relations) (p : O → Order) (first now : Console T O tm) (piece rest was out : List ℕ) → ReadPart m p first now piece rest was out → length rest ≡ 0 → (text : List ℕ) × (out ≡ was ++ text) × Reads m p first now piece text

@@ -34,6 +34,16 @@ abbrev pub Reads : {T O : Type 0} {tm : _} → (T → Relations) → (O → Orde
 Reads u o before after bytes text =
     (detection : Detection) (input printed : List ℕ) → HasRead (u before.book.policy.table) (o before.book.policy.order) detection input printed before → HasRead (u before.book.policy.table) (o before.book.policy.order) detection (input ++ bytes) (printed ++ text) after
 
+-- the console has read the first bytes of a piece, and all that it printed for them stands behind what was there but the last answer, which is lost
+pub record LosesAnswer {T O : Type 0} {tm : _} (u : T → Relations) (o : O → Order) (before after : Console T O tm) (piece was out : List ℕ) : Type 0 where
+  pub bytes : List ℕ
+  pub rest : List ℕ
+  pub text : List ℕ
+  pub lost : List ℕ
+  pub front : piece ≡ bytes ++ rest
+  pub put : out ≡ was ++ text
+  pub read : Reads u o before after bytes (text ++ lost)
+
 -- with the text, what the console has printed is the transcript of what it has read
 abbrev pub Finishes : {T O : Type 0} {tm : _} → (T → Relations) → (O → Order) → Console T O tm → List ℕ → Type 0
 Finishes u o console text =

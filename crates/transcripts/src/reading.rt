@@ -1,9 +1,9 @@
 // Reading an input in pieces.
-ghost use Rattle.std.specs.Prelude.{◌≡◌, ℕ, List, [], ◌++◌, ◌==◌, length, take, OnOk, nat_le, nat_lt};
+ghost use Rattle.std.specs.Prelude.{◌≡◌, ℕ, List, [], ◌++◌, ◌==◌, length, take, OnOk, OnErr, nat_le, nat_lt};
 ghost use Rattle.std.specs.List.{position_or_len};
 ghost use Rattle.model.specs.declared.state.Detection.{Detection as Detections};
 ghost use Rattle.transcripts.specs.Inputs.{Lines, count, line_length};
-ghost use Rattle.transcripts.specs.Stands.{HasAnswered, HasRead, Reads, EndsLines, Finishes};
+ghost use Rattle.transcripts.specs.Stands.{HasAnswered, HasRead, Reads, LosesAnswer, EndsLines, Finishes};
 
 use crate::answering::LAST;
 use crate::console::Console;
@@ -99,9 +99,10 @@ impl<T: UseTable, O: RecallOrder> Console<T, O> {
     }
 
     // Takes a whole piece, and puts all that is printed behind what is in `out`. Where there is no
-    // memory for that, the console is of no more use.
+    // memory for an answer, that answer is lost, and what stands behind its line is not taken.
     pub fn take_all(&mut self, piece: &[u8], out: &mut Vec<u8>) -> Result<(), AllocError>
         ensures read { OnOk result ((text : List ℕ) × (out.new.items ≡ out.old.items ++ text) × Reads T.meaning O.meaning self.old self.new piece.now text) }
+        ensures failed { OnErr result (LosesAnswer T.meaning O.meaning self.old self.new piece.now out.old.items out.new.items) }
         ensures policy { self.new.book.policy ≡ self.old.book.policy }
     {
         let mut printed = Printed::new();

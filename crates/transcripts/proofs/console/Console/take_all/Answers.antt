@@ -2,7 +2,7 @@ use Rattle.std.proofs.Common.{ℕ, ◌-◌, ◌∙◌, List, ◌++◌, length, t
 use Rattle.std.proofs.lemmas.List.{length-take}
 use Rattle.std.proofs.lemmas.Result.{err_from_is_err_and}
 use Rattle.std.proofs.lemmas.Bool.Decides.{nat_tests}
-use Rattle.transcripts.proofs.Pieces.{line_inside, line_some, read_nothing, read_more, two_parts, read_whole}
+use Rattle.transcripts.proofs.Pieces.{line_inside, line_some, read_nothing, read_more, loses_answer, two_parts, read_whole}
 use Rattle.transcripts.proofs.console.Console.take_all.Goals as goal
 
 pub loop-rest-init : goal.loop-rest-init
@@ -11,9 +11,10 @@ loop-rest-init g c = read_nothing g.T.UseTable.meaning g.O.RecallOrder.meaning c
 pub returns-in_err-extend_from_slice : goal.returns-in_err-extend_from_slice
 returns-in_err-extend_from_slice g c =
     let p = err_from_is_err_and c.from_residual.result c.from_residual.ensures.1 in
-    let was = c.loop-rest.invariant.policy in
-    let taken = c.take-taken.ensures.policy in
-    record { read = rw p.1 tt; policy = taken ∙ was }
+    let rest = c.loop-rest.rest.now in
+    let n = c.take-taken.result in
+    let lost = loses_answer g.T.UseTable.meaning g.O.RecallOrder.meaning c.args.self.now c.loop-rest.self c.take-taken.new.self c.args.piece.now rest (take n rest) (take (length rest - n) (drop n rest)) (vec_items c.args.out.now) (vec_items c.loop-rest.out) c.take-taken.new.printed (vec_items c.extend_from_slice.new.self) c.loop-rest.invariant (two_parts n rest) c.take-taken.ensures.read c.in_err-extend_from_slice.ensures.items in
+    record { read = rw p.1 tt; failed = rw p.1 lost; policy = c.take-taken.ensures.policy ∙ c.loop-rest.invariant.policy }
 
 pub slice_bounds-rest-count : goal.slice_bounds-rest-count
 slice_bounds-rest-count g c = let is = c.take-taken.ensures.taken in let inside = line_inside c.loop-rest.rest.now in omega (arith, is, inside)
@@ -41,5 +42,6 @@ pub returns : goal.returns
 returns g c =
     record {
       read = read_whole g.T.UseTable.meaning g.O.RecallOrder.meaning c.args.self.now c.loop-rest.self c.args.piece.now c.loop-rest.rest.now (vec_items c.args.out.now) (vec_items c.loop-rest.out) c.loop-rest.invariant (let h = c.loop-rest-test.ensures in let n = c.loop-rest-test.false in grind (arith, nat_tests, h, n));
+      failed = tt;
       policy = c.loop-rest.invariant.policy;
     }
