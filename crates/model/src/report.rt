@@ -42,8 +42,7 @@ impl Report {
     // Kept: beside `name_woken`, though both write one place: what they share is two lines, and a
     // third method for those would need a contract longer than they are.
     pub fn name_recalled(&mut self, named: Named)
-        requires room { self.old.recalled < 64 }
-        requires none { self.old.woken ≡ 0 }
+        requires { self.old.recalled < 64 }
         ensures recalled { self.new.recalled ≡ self.old.recalled + 1 }
         ensures woken { self.new.woken ≡ self.old.woken }
         ensures named { (recalls : List Named) → self.old ≡ filled recalls [] → self.new ≡ filled (recalls ++ named ∷ []) [] }

@@ -34,10 +34,7 @@ pub name_recalled-requires : goal.name_recalled-requires
 name_recalled-requires g c =
     let t = c.loop-turn.invariant in
     let same : c.loop-turn.report.recalled ≡ length t.so_far = ap (λ (r : Report). r.recalled) t.named_so in
-    record {
-      room = omega (arith, same, t.count, c.loop-turn-test.true);
-      none = ap (λ (r : Report). r.woken) t.named_so;
-    }
+    omega (arith, same, t.count, c.loop-turn-test.true)
 
 pub loop-turn-preserved : goal.loop-turn-preserved
 loop-turn-preserved g c =
