@@ -3,17 +3,17 @@ use Rattle.std.proofs.Common.{◌≡◌, ℕ, [], Some, None, Ok, Err, Option, R
 use Rattle.std.proofs.lemmas.Result.{err_from_is_err_and}
 use Rattle.uses.specs.Relations.{Relations}
 use Rattle.orders.specs.Laws.{OrderLaws}
-use Rattle.model.specs.State.{State, taken_out}
+use Rattle.model.specs.State.{State, state_without}
 use Rattle.model.specs.Recalling.{Order}
-use Rattle.model.specs.Calls.{Outcome, Effect, checks, refusal, accepted, effect_by, woken, with_wakes, step, filled, report, plain, is_ok}
+use Rattle.model.specs.Calls.{Outcome, Effect, checks, refusal, accepted, effect_by, woken, with_wakes, step, report_of, report, plain, answer_ok}
 use Rattle.model.specs.Invariant.{Invariant}
 use Rattle.model.specs.declared.call.Call.{Call}
 use Rattle.model.specs.declared.report.Report.{Report}
 use Rattle.model.proofs.Steps.{step_invariant}
 use Rattle.model.proofs.Wakes.{woken_same}
 use Rattle.book.specs.Held.{state}
-use Rattle.book.specs.Said.{number, said}
-use Rattle.book.specs.Carried.{CarriedOut, Done}
+use Rattle.book.specs.Said.{number, answer_of}
+use Rattle.book.specs.Carried.{CarriedOut, CarriesOut}
 use Rattle.book.specs.declared.answers.Answer.{Answer}
 use Rattle.book.specs.declared.answers.Answer.TheVariants as answer
 use Rattle.book.specs.declared.answers.Refusal.{Refusal}
@@ -26,17 +26,17 @@ module _ (u : Relations) (o : Order) (s : State) (c : Call) where
   step_by v h = ap (λ (x : Option ℕ). with_wakes u s (effect_by u o s c x)) h
 
   -- a call that is refused
-  pub carried_refused : (e : Refusal) (r : Report) (t : State) → refusal (checks u s c) ≡ Some (number e) → r ≡ filled [] [] → t ≡ s → CarriedOut u o s c (Err e) r t
+  pub carried_refused : (e : Refusal) (r : Report) (t : State) → refusal (checks u s c) ≡ Some (number e) → r ≡ report_of [] [] → t ≡ s → CarriedOut u o s c (Err e) r t
   carried_refused e r t h is same =
       let stepped = step_by (Some (number e)) h in
       record {
         answered = sym (ap (λ (x : Outcome). x.answer) stepped);
-        reported = is ∙ (ap (filled []) (sym (woken_same u s s refl)) ∙ sym (ap (λ (x : Outcome). report x) stepped));
+        reported = is ∙ (ap (report_of []) (sym (woken_same u s s refl)) ∙ sym (ap (λ (x : Outcome). report x) stepped));
         left = same ∙ sym (ap (λ (x : Outcome). x.state) stepped);
       }
 
   -- a call that is accepted
-  pub carried_accepted : (a : Answer) (e : Effect) (r : Report) (t : State) → refusal (checks u s c) ≡ None → accepted u o s c ≡ e → said (Ok a) ≡ e.answer → r ≡ filled e.recalls (woken u s e.state) → t ≡ e.state → CarriedOut u o s c (Ok a) r t
+  pub carried_accepted : (a : Answer) (e : Effect) (r : Report) (t : State) → refusal (checks u s c) ≡ None → accepted u o s c ≡ e → answer_of (Ok a) ≡ e.answer → r ≡ report_of e.recalls (woken u s e.state) → t ≡ e.state → CarriedOut u o s c (Ok a) r t
   carried_accepted a e r t h does says is same =
       let stepped = step_by None h ∙ ap (with_wakes u s) does in
       record {
@@ -46,14 +46,14 @@ module _ (u : Relations) (o : Order) (s : State) (c : Call) where
       }
 
   -- a call that is accepted, wakes nobody and recalls nobody
-  pub carried_plain : (r : Report) (t t' : State) → refusal (checks u s c) ≡ None → accepted u o s c ≡ plain t' is_ok → woken u s t' ≡ [] → r ≡ filled [] [] → t ≡ t' → CarriedOut u o s c (Ok answer.Ok) r t
+  pub carried_plain : (r : Report) (t t' : State) → refusal (checks u s c) ≡ None → accepted u o s c ≡ plain t' answer_ok → woken u s t' ≡ [] → r ≡ report_of [] [] → t ≡ t' → CarriedOut u o s c (Ok answer.Ok) r t
   carried_plain r t t' h does nobody is same =
-      carried_accepted answer.Ok (plain t' is_ok) r t h does refl (is ∙ ap (filled []) (sym nobody)) same
+      carried_accepted answer.Ok (plain t' answer_ok) r t h does refl (is ∙ ap (report_of []) (sym nobody)) same
 
   -- a call that ends a dispatch
-  pub carried_end : (d n : ℕ) (r : Report) (t : State) → refusal (checks u s c) ≡ None → accepted u o s c ≡ plain (taken_out d s) is_ok → n ≡ d → r ≡ filled [] (woken u s (taken_out n s)) → t ≡ taken_out n s → CarriedOut u o s c (Ok answer.Ok) r t
+  pub carried_end : (d n : ℕ) (r : Report) (t : State) → refusal (checks u s c) ≡ None → accepted u o s c ≡ plain (state_without d s) answer_ok → n ≡ d → r ≡ report_of [] (woken u s (state_without n s)) → t ≡ state_without n s → CarriedOut u o s c (Ok answer.Ok) r t
   carried_end d n r t h does at is same =
-      carried_accepted answer.Ok (plain (taken_out d s) is_ok) r t h does refl (is ∙ ap (λ (k : ℕ). filled [] (woken u s (taken_out k s))) at) (same ∙ ap (λ (k : ℕ). taken_out k s) at)
+      carried_accepted answer.Ok (plain (state_without d s) answer_ok) r t h does refl (is ∙ ap (λ (k : ℕ). report_of [] (woken u s (state_without k s))) at) (same ∙ ap (λ (k : ℕ). state_without k s) at)
 
 -- what is carried out keeps the invariant
 pub kept : (u : Relations) (o : Order) → OrderLaws o → (s : State) (c : Call) {a : Result Answer Refusal} {r : Report} {t : State} → Invariant u s → CarriedOut u o s c a r t → Invariant u t
@@ -65,7 +65,7 @@ module _ {T O : Type 0} {t : _} (uses : T → Relations) (orders : O → Order) 
   CarriedOutIn a r left = CarriedOut (uses before.policy.table) (orders before.policy.order) (state before.tables) c a r left
 
   -- a call that is refused, as the exit of a `?` leaves it
-  pub done_refused : (after : Book T O t) (a : Result Answer Refusal) (e : Refusal) (r : Report) → IsErrAnd a (λ y. y ≡ e) → refusal (checks (uses before.policy.table) (state before.tables) c) ≡ Some (number e) → r ≡ filled [] [] → state after.tables ≡ state before.tables → after.policy ≡ before.policy → Done uses orders before c a r after
+  pub done_refused : (after : Book T O t) (a : Result Answer Refusal) (e : Refusal) (r : Report) → IsErrAnd a (λ y. y ≡ e) → refusal (checks (uses before.policy.table) (state before.tables) c) ≡ Some (number e) → r ≡ report_of [] [] → state after.tables ≡ state before.tables → after.policy ≡ before.policy → CarriesOut uses orders before c a r after
   done_refused after a e r exits h is same stays =
       let p = err_from_is_err_and a exits in
       rw (p.1, p.2)

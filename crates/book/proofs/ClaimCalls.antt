@@ -5,10 +5,10 @@ use Rattle.std.proofs.lemmas.Bool.Decides.{nat_tests}
 use Rattle.uses.specs.Relations.{Relations}
 use Rattle.orders.specs.Laws.{OrderLaws}
 use Rattle.model.specs.Search.{any}
-use Rattle.model.specs.Claims.{blocks, dispatch_waits, covered}
-use Rattle.model.specs.State.{State, is_open, entered}
+use Rattle.model.specs.Claims.{blocks, dispatch_waits, is_covered}
+use Rattle.model.specs.State.{State, is_open, state_with_claim}
 use Rattle.model.specs.Recalling.{Order}
-use Rattle.model.specs.Calls.{Check, Effect, number_too_high, section_too_high, unknown_use, recalled_already, free_already, waiting_already, no_room, checks, refusal, plain, claimed, after_entry, is_covered, woken, filled}
+use Rattle.model.specs.Calls.{Check, Effect, number_too_high, section_too_high, unknown_use, recalled_already, free_already, waiting_already, no_room, checks, refusal, plain, claimed, after_entry, answer_covered, woken, report_of}
 use Rattle.model.specs.Invariant.{NoCycle}
 use Rattle.model.specs.declared.call.Call.TheVariants as call
 use Rattle.model.specs.declared.report.Report.{Report}
@@ -17,7 +17,7 @@ use Rattle.model.specs.declared.state.Detection.TheVariants.{Continuous}
 use Rattle.model.proofs.Wakes.{woken_same, woken_entered}
 use Rattle.book.specs.Carried.{CarriedOut}
 use Rattle.book.specs.Entered.{EntersWith}
-use Rattle.book.specs.Said.{said}
+use Rattle.book.specs.Said.{answer_of}
 use Rattle.book.specs.declared.answers.Answer.{Answer}
 use Rattle.book.specs.declared.answers.Answer.TheVariants as answer
 use Rattle.book.specs.declared.answers.Refusal.{Refusal}
@@ -47,32 +47,32 @@ module _ (u : Relations) (o : Order) (s : State) (x : Claim) (passed : refusal (
   verdict = refusal_rest (first_checks u s x.dispatch x.section x.mode) (no_room u s x.dispatch x.section x.mode ∷ []) passed
 
   -- a covered claim
-  pub carried_covered : (r : Report) → covered u s.claims x.dispatch x.section x.mode ≡ true → r ≡ filled [] [] → Carried (Ok answer.Covered) r s
+  pub carried_covered : (r : Report) → is_covered u s.claims x.dispatch x.section x.mode ≡ true → r ≡ report_of [] [] → Carried (Ok answer.Covered) r s
   carried_covered r cover is =
-      carried_accepted u o s (call.Claim x.dispatch x.section x.mode) answer.Covered (plain s is_covered) r s (verdict ∙ grind (arith, cover))
-      (cond-true (covered u s.claims x.dispatch x.section x.mode) (plain s is_covered) (claimed u x.dispatch (after_entry u o s.detection (entered x s))) cover)
-      refl (is ∙ ap (filled []) (sym (woken_same u s s refl))) refl
+      carried_accepted u o s (call.Claim x.dispatch x.section x.mode) answer.Covered (plain s answer_covered) r s (verdict ∙ grind (arith, cover))
+      (cond-true (is_covered u s.claims x.dispatch x.section x.mode) (plain s answer_covered) (claimed u x.dispatch (after_entry u o s.detection (state_with_claim x s))) cover)
+      refl (is ∙ ap (report_of []) (sym (woken_same u s s refl))) refl
 
   -- a claim for which there is no room
-  pub carried_no_room : (r : Report) → covered u s.claims x.dispatch x.section x.mode ≡ false → 512 ≤ length s.claims → r ≡ filled [] [] → Carried (Err NoRoom) r s
+  pub carried_no_room : (r : Report) → is_covered u s.claims x.dispatch x.section x.mode ≡ false → 512 ≤ length s.claims → r ≡ report_of [] [] → Carried (Err NoRoom) r s
   carried_no_room r new full is =
       carried_refused u o s (call.Claim x.dispatch x.section x.mode) NoRoom r s (verdict ∙ grind (arith, nat_tests, new, full)) is refl
 
-  module _ (new : covered u s.claims x.dispatch x.section x.mode ≡ false) (room : length s.claims < 512) where
+  module _ (new : is_covered u s.claims x.dispatch x.section x.mode ≡ false) (room : length s.claims < 512) where
     -- a claim that is entered
-    pub carried_entered : (a : Answer) (r : Report) (t : State) (e : Effect) → claimed u x.dispatch (after_entry u o s.detection (entered x s)) ≡ e → said (Ok a) ≡ e.answer → r ≡ filled e.recalls (woken u s e.state) → t ≡ e.state → Carried (Ok a) r t
+    pub carried_entered : (a : Answer) (r : Report) (t : State) (e : Effect) → claimed u x.dispatch (after_entry u o s.detection (state_with_claim x s)) ≡ e → answer_of (Ok a) ≡ e.answer → r ≡ report_of e.recalls (woken u s e.state) → t ≡ e.state → Carried (Ok a) r t
     carried_entered a r t e does says is same =
         carried_accepted u o s (call.Claim x.dispatch x.section x.mode) a e r t (verdict ∙ grind (arith, nat_tests, new, room))
-        (cond-false (covered u s.claims x.dispatch x.section x.mode) (plain s is_covered) (claimed u x.dispatch (after_entry u o s.detection (entered x s))) new ∙ does)
+        (cond-false (is_covered u s.claims x.dispatch x.section x.mode) (plain s answer_covered) (claimed u x.dispatch (after_entry u o s.detection (state_with_claim x s))) new ∙ does)
         says is same
 
     -- a claim that nothing blocks
-    pub carried_granted : OrderLaws o → Steady s.opened s.claims → (r : Report) (t : State) → any (λ b. blocks u b x) s.claims ≡ false → (s.detection ≡ Continuous → NoCycle u s) → r ≡ filled [] [] → t ≡ entered x s → Carried (Ok answer.Granted) r t
+    pub carried_granted : OrderLaws o → Steady s.opened s.claims → (r : Report) (t : State) → any (λ b. blocks u b x) s.claims ≡ false → (s.detection ≡ Continuous → NoCycle u s) → r ≡ report_of [] [] → t ≡ state_with_claim x s → Carried (Ok answer.Granted) r t
     carried_granted lawful w r t free clear is same =
         let here = passed_open u s x.dispatch x.section x.mode passed in
         let runs = passed_runs u s x.dispatch x.section x.mode passed in
-        let g = steady_grounded (entered x s) (steady_entered s.opened s.claims x here w) in
-        carried_entered answer.Granted r t _ (unblocked_does u o lawful s x runs free g (steady_few s w) s.detection clear) refl (is ∙ ap (filled []) (sym (woken_entered u s x))) same
+        let g = steady_grounded (state_with_claim x s) (steady_entered s.opened s.claims x here w) in
+        carried_entered answer.Granted r t _ (unblocked_does u o lawful s x runs free g (steady_few s w) s.detection clear) refl (is ∙ ap (report_of []) (sym (woken_entered u s x))) same
 
 -- a claim that was checked is the one that was asked for: what is shown of the checked one is shown of the call
 module _ (u : Relations) (o : Order) (s : State) (x y : Claim) (checked : (refusal (first_checks u s y.dispatch y.section y.mode) ≡ None) × (x ≡ y)) where
@@ -83,19 +83,19 @@ module _ (u : Relations) (o : Order) (s : State) (x y : Claim) (checked : (refus
   carried_at a r t h = subst (λ (z : Claim). CarriedOut u o s (call.Claim z.dispatch z.section z.mode) a r t) checked.1 h
 
   -- it is covered
-  pub asked_covered : (r : Report) → true ≡ covered u s.claims x.dispatch x.section x.mode → r ≡ filled [] [] → CarriedOut u o s (call.Claim y.dispatch y.section y.mode) (Ok answer.Covered) r s
+  pub asked_covered : (r : Report) → true ≡ is_covered u s.claims x.dispatch x.section x.mode → r ≡ report_of [] [] → CarriedOut u o s (call.Claim y.dispatch y.section y.mode) (Ok answer.Covered) r s
   asked_covered r cover is = carried_at (Ok answer.Covered) r s (carried_covered u o s x passed_at r (sym cover) is)
 
-  module _ (new : false ≡ covered u s.claims x.dispatch x.section x.mode) where
+  module _ (new : false ≡ is_covered u s.claims x.dispatch x.section x.mode) where
     -- there is no room
-    pub asked_no_room : (r : Report) → 512 ≤ length s.claims → r ≡ filled [] [] → CarriedOut u o s (call.Claim y.dispatch y.section y.mode) (Err NoRoom) r s
+    pub asked_no_room : (r : Report) → 512 ≤ length s.claims → r ≡ report_of [] [] → CarriedOut u o s (call.Claim y.dispatch y.section y.mode) (Err NoRoom) r s
     asked_no_room r full is = carried_at (Err NoRoom) r s (carried_no_room u o s x passed_at r (sym new) full is)
 
     module _ (room : length s.claims < 512) where
       -- nothing blocks it
-      pub asked_granted : OrderLaws o → Steady s.opened s.claims → (r : Report) (t : State) → any (λ b. blocks u b x) s.claims ≡ false → (s.detection ≡ Continuous → NoCycle u s) → r ≡ filled [] [] → t ≡ entered x s → CarriedOut u o s (call.Claim y.dispatch y.section y.mode) (Ok answer.Granted) r t
+      pub asked_granted : OrderLaws o → Steady s.opened s.claims → (r : Report) (t : State) → any (λ b. blocks u b x) s.claims ≡ false → (s.detection ≡ Continuous → NoCycle u s) → r ≡ report_of [] [] → t ≡ state_with_claim x s → CarriedOut u o s (call.Claim y.dispatch y.section y.mode) (Ok answer.Granted) r t
       asked_granted lawful w r t free clear is same = carried_at (Ok answer.Granted) r t (carried_granted u o s x passed_at (sym new) room lawful w r t free clear is same)
 
       -- it is blocked
-      pub asked_blocked : (a : Answer) (r : Report) (t : State) → EntersWith u s x (after_entry u o s.detection (entered x s)) a r t → CarriedOut u o s (call.Claim y.dispatch y.section y.mode) (Ok a) r t
-      asked_blocked a r t does = carried_at (Ok a) r t (carried_entered u o s x passed_at (sym new) room a r t (claimed u x.dispatch (after_entry u o s.detection (entered x s))) refl does.answered does.named does.left)
+      pub asked_blocked : (a : Answer) (r : Report) (t : State) → EntersWith u s x (after_entry u o s.detection (state_with_claim x s)) a r t → CarriedOut u o s (call.Claim y.dispatch y.section y.mode) (Ok a) r t
+      asked_blocked a r t does = carried_at (Ok a) r t (carried_entered u o s x passed_at (sym new) room a r t (claimed u x.dispatch (after_entry u o s.detection (state_with_claim x s))) refl does.answered does.named does.left)

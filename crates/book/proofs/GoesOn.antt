@@ -9,7 +9,7 @@ use Rattle.model.specs.Runs.{Run, next, at}
 use Rattle.model.specs.declared.call.Call.{Call}
 use Rattle.model.specs.declared.report.Report.{Report}
 use Rattle.model.proofs.LawHolds.{law}
-use Rattle.book.specs.Carried.{CarriedOut, RunGoesOn, Done, KeepsLaw}
+use Rattle.book.specs.Carried.{CarriedOut, RunGoesOn, CarriesOut, KeepsLaw}
 use Rattle.book.specs.Held.{state}
 use Rattle.book.specs.declared.answers.Answer.{Answer}
 use Rattle.book.specs.declared.answers.Refusal.{Refusal}
@@ -25,7 +25,7 @@ goes_on u laws o lawful s c a r t carried run is = record {
 
 module _ {T O : Type 0} {t : _} (uses : T → Relations) (laws : (x : T) → UseLaws (uses x)) (orders : O → Order) (lawful : (x : O) → OrderLaws (orders x)) (before after : Book T O t) where
   -- the call that was asked for is the one that was made: it is done, and the law holds on
-  pub asked_made : (asked made : Call) (a : Result Answer Refusal) (r : Report) → asked ≡ made → Done uses orders before made a r after → Done uses orders before asked a r after × KeepsLaw uses orders before asked a r after
+  pub asked_made : (asked made : Call) (a : Result Answer Refusal) (r : Report) → asked ≡ made → CarriesOut uses orders before made a r after → CarriesOut uses orders before asked a r after × KeepsLaw uses orders before asked a r after
   asked_made asked made a r is does =
       let carried = subst (λ (c : Call). CarriedOut (uses before.policy.table) (orders before.policy.order) (state before.tables) c a r (state after.tables)) (sym is) does.carried in (
         record { carried = carried; policy = does.policy },
@@ -33,5 +33,5 @@ module _ {T O : Type 0} {t : _} (uses : T → Relations) (laws : (x : T) → Use
       )
 
   -- what is done keeps the law
-  pub keeps_law : (c : Call) (a : Result Answer Refusal) (r : Report) → Done uses orders before c a r after → KeepsLaw uses orders before c a r after
+  pub keeps_law : (c : Call) (a : Result Answer Refusal) (r : Report) → CarriesOut uses orders before c a r after → KeepsLaw uses orders before c a r after
   keeps_law c a r does = (asked_made c c a r refl does).1

@@ -6,32 +6,32 @@ use Rattle.std.proofs.lemmas.List.Sums.{prefix_len-le-length}
 use Rattle.model.specs.Search.{any, member}
 use Rattle.model.specs.State.{numbers}
 use Rattle.model.specs.Recalling.{standing, weight}
-use Rattle.model.specs.declared.state.Opened.{Opened}
+use Rattle.model.specs.declared.state.OpenEntry.{OpenEntry}
 
 -- the entry is the dispatch's
-abbrev pub is_of : ℕ → Opened → Bool
+abbrev pub is_of : ℕ → OpenEntry → Bool
 is_of d e = eqb e.dispatch d
 
 -- an entry of the dispatch is found exactly where its number is listed
-pub listed_is : (d : ℕ) (es : List Opened) → any (is_of d) es ≡ member d (numbers es)
+pub listed_is : (d : ℕ) (es : List OpenEntry) → any (is_of d) es ≡ member d (numbers es)
 listed_is d [] = refl
 listed_is d (e ∷ es) = ap (λ b. is_of d e || b) (listed_is d es)
 
 -- its standing is its place
-place_is : (d : ℕ) (es : List Opened) → position_or_len (is_of d) es ≡ standing es d
+place_is : (d : ℕ) (es : List OpenEntry) → position_or_len (is_of d) es ≡ standing es d
 place_is d [] = refl
 place_is d (e ∷ es) = let rest = place_is d es in grind (arith, nat_tests, rest)
 
 -- as `position` finds it, or the length
-pub standing_is : (d : ℕ) (es : List Opened) → unwrap_or (cond (ltb (position_or_len (is_of d) es) (length es)) (Some (position_or_len (is_of d) es)) None) (length es) ≡ standing es d
+pub standing_is : (d : ℕ) (es : List OpenEntry) → unwrap_or (cond (ltb (position_or_len (is_of d) es) (length es)) (Some (position_or_len (is_of d) es)) None) (length es) ≡ standing es d
 standing_is d es = let h = prefix_len-le-length (λ e. not (is_of d e)) es in let place = place_is d es in grind (arith, nat_tests, h, place)
 
 -- the weight of the entry that was found
-abbrev pub weight_found : Option Opened → ℕ
+abbrev pub weight_found : Option OpenEntry → ℕ
 weight_found None = 0
 weight_found (Some e) = e.weight
 
 -- the first entry of the dispatch has its weight
-pub weight_is : (d : ℕ) (es : List Opened) → weight_found (find (is_of d) es) ≡ weight es d
+pub weight_is : (d : ℕ) (es : List OpenEntry) → weight_found (find (is_of d) es) ≡ weight es d
 weight_is d [] = refl
 weight_is d (e ∷ es) = let rest = weight_is d es in grind (arith, nat_tests, rest)

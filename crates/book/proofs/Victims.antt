@@ -6,9 +6,9 @@ use Rattle.std.proofs.lemmas.Bool.{cases_lt, cases_Bool, cond_both, cond-true, c
 use Rattle.std.proofs.lemmas.Bool.Decides.{same_from_decides}
 use Rattle.uses.specs.Relations.{Relations}
 use Rattle.orders.specs.Laws.{OrderLaws}
-use Rattle.marks.specs.Marks.{marked, unmarked}
-use Rattle.marks.specs.declared.Marks.{Marks}
-use Rattle.marks.proofs.Bits.{none_marked}
+use Rattle.dispatch_set.specs.DispatchSet.{contains, empty_set}
+use Rattle.dispatch_set.specs.declared.DispatchSet.{DispatchSet}
+use Rattle.dispatch_set.proofs.Bits.{none_marked}
 use Rattle.cycles.specs.Rows.{relation}
 use Rattle.model.specs.Graph.{OnCycle, on_cycle}
 use Rattle.model.specs.Claims.{waits_for}
@@ -18,7 +18,7 @@ use Rattle.model.proofs.Graphs.{on_cycle_exact}
 use Rattle.model.proofs.ClaimLists.{waits_for_ends}
 use Rattle.model.proofs.Recalls.{steps_open}
 use Rattle.model.proofs.Turns.{kept_same, first_push, better as better_option}
-use Rattle.model.specs.declared.state.Opened.{Opened}
+use Rattle.model.specs.declared.state.OpenEntry.{OpenEntry}
 use Rattle.book.specs.Better.{better}
 use Rattle.book.proofs.Steady.{Steady, steady_below, steady_grounded}
 
@@ -31,32 +31,32 @@ module _ (u : Relations) (s : State) (w : Steady s.opened s.claims) where
       (λ waits_not. waits_not) (cases_Bool (waits_for u s.claims a b))
 
   -- rows that are right below 64 are right
-  pub rows_right : (rows : List Marks) → length rows ≡ 64 → ((k : ℕ) → k < 64 → marked (get_or rows k unmarked) ≡ waits_for u s.claims k) → (a b : ℕ) → relation rows a b ≡ waits_for u s.claims a b
+  pub rows_right : (rows : List DispatchSet) → length rows ≡ 64 → ((k : ℕ) → k < 64 → contains (get_or rows k empty_set) ≡ waits_for u s.claims k) → (a b : ℕ) → relation rows a b ≡ waits_for u s.claims a b
   rows_right rows long right a b =
       ⊎_elim (λ low. λ i. right a low i b)
-      (λ high. ap (λ m. marked m b) (get_or_past rows a unmarked (omega arith)) ∙ ((λ i. none_marked i b) ∙ sym (high_waits_not a b high)))
+      (λ high. ap (λ m. contains m b) (get_or_past rows a empty_set (omega arith)) ∙ ((λ i. none_marked i b) ∙ sym (high_waits_not a b high)))
       (cases_lt a 64)
 
   -- marks that are exact on cycles pick out those on cycles
-  pub cycles_marked : (m : Marks) (r : ℕ → ℕ → Bool) → ((a b : ℕ) → r a b ≡ waits_for u s.claims a b) → ((a : ℕ) → Decides (marked m a) (OnCycle r a)) → filter (marked m) (numbers s.opened) ≡ on_cycles u s
+  pub cycles_marked : (m : DispatchSet) (r : ℕ → ℕ → Bool) → ((a b : ℕ) → r a b ≡ waits_for u s.claims a b) → ((a : ℕ) → Decides (contains m a) (OnCycle r a)) → filter (contains m) (numbers s.opened) ≡ on_cycles u s
   unfolding on_cycles
   cycles_marked m r same exact =
       let ks = numbers s.opened in
       let equal : r ≡ waits_for u s.claims = λ i a b. same a b i in
-      kept_same (marked m) (on_cycle ks (waits_for u s.claims)) ks
-      (λ x here. same_from_decides (marked m x) (on_cycle ks (waits_for u s.claims) x) (subst (λ (q : ℕ → ℕ → Bool). Decides (marked m x) (OnCycle q x)) equal (exact x))
+      kept_same (contains m) (on_cycle ks (waits_for u s.claims)) ks
+      (λ x here. same_from_decides (contains m x) (on_cycle ks (waits_for u s.claims) x) (subst (λ (q : ℕ → ℕ → Bool). Decides (contains m x) (OnCycle q x)) equal (exact x))
       (on_cycle_exact ks (waits_for u s.claims) (steps_open u s (steady_grounded s w)) x))
 
 -- an entry to read past the end
-abbrev pub none_opened : Opened
+abbrev pub none_opened : OpenEntry
 none_opened = record { dispatch = 0; weight = 0 }
 
 -- one more of the open list, filtered
-pub numbers_more : (m : ℕ → Bool) (es : List Opened) (i : ℕ) (x : Opened) → i < length es → filter m (numbers (take (i + 1) es)) ≡ filter m (numbers (take i es)) ++ cond (m (get_or es i x).dispatch) ((get_or es i x).dispatch ∷ []) []
+pub numbers_more : (m : ℕ → Bool) (es : List OpenEntry) (i : ℕ) (x : OpenEntry) → i < length es → filter m (numbers (take (i + 1) es)) ≡ filter m (numbers (take i es)) ++ cond (m (get_or es i x).dispatch) ((get_or es i x).dispatch ∷ []) []
 numbers_more m es i x h =
     ap (filter m) (map_more (λ e. e.dispatch) es i x h) ∙ (filter-append m (numbers (take i es)) ((get_or es i x).dispatch ∷ []))
 
-module _ (u : Relations) (o : Order) (lawful : OrderLaws o) (s : State) (m : ℕ → Bool) (es : List Opened) (i : ℕ) (x : Opened) (h : i < length es) where
+module _ (u : Relations) (o : Order) (lawful : OrderLaws o) (s : State) (m : ℕ → Bool) (es : List OpenEntry) (i : ℕ) (x : OpenEntry) (h : i < length es) where
   -- the first so far, with one more that is in the set
   pub first_more : m (get_or es i x).dispatch ≡ true → Some (better u o s (get_or es i x).dispatch (first u o s (filter m (numbers (take i es))))) ≡ first u o s (filter m (numbers (take (i + 1) es)))
   first_more k =

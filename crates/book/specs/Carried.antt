@@ -9,14 +9,14 @@ use Rattle.model.specs.Law.{Law}
 use Rattle.model.specs.declared.call.Call.{Call}
 use Rattle.model.specs.declared.report.Report.{Report}
 use Rattle.book.specs.Held.{state}
-use Rattle.book.specs.Said.{said}
+use Rattle.book.specs.Said.{answer_of}
 use Rattle.book.specs.declared.answers.Answer.{Answer}
 use Rattle.book.specs.declared.answers.Refusal.{Refusal}
 use Rattle.book.specs.declared.book.Book.{Book}
 
 -- the answer, the whole report and the whole state left are those that the model gives for the call in the state before
 pub record CarriedOut (u : Relations) (o : Order) (before : State) (c : Call) (answer : Result Answer Refusal) (r : Report) (after : State) : Type 0 where
-  pub answered : said answer ≡ (step u o before c).answer
+  pub answered : answer_of answer ≡ (step u o before c).answer
   pub reported : r ≡ report (step u o before c)
   pub left : after ≡ (step u o before c).state
 
@@ -27,7 +27,7 @@ pub record RunGoesOn (u : Relations) (o : Order) (before : State) (c : Call) (an
   pub lawful : Law u o (next run c)
 
 -- what every call of a book promises, by the meanings of its table and its order: it is carried out, and the policy stays
-pub record Done {T O : Type 0} {t : _} (uses : T → Relations) (orders : O → Order) (before : Book T O t) (c : Call) (answer : Result Answer Refusal) (r : Report) (after : Book T O t) : Type 0 where
+pub record CarriesOut {T O : Type 0} {t : _} (uses : T → Relations) (orders : O → Order) (before : Book T O t) (c : Call) (answer : Result Answer Refusal) (r : Report) (after : Book T O t) : Type 0 where
   pub carried : CarriedOut (uses before.policy.table) (orders before.policy.order) (state before.tables) c answer r (state after.tables)
   pub policy : after.policy ≡ before.policy
 

@@ -1,7 +1,7 @@
 -- What each case of an answer says, and the words that it is printed in.
 use Rattle.std.specs.Prelude.{ℕ, List, ◌++◌, codes, decimal, Result}
 use Rattle.std.specs.declared.result.Result.TheVariants as result
-use Rattle.model.specs.Calls.{Answer as Says, is_ok, is_granted, is_covered, is_waiting, is_recalled, is_refused}
+use Rattle.model.specs.Calls.{ModelAnswer, answer_ok, answer_granted, answer_covered, answer_waits, answer_recalled, answer_refused}
 use Rattle.book.specs.declared.answers.Answer.{Answer}
 use Rattle.book.specs.declared.answers.Answer.TheVariants.{Ok, Granted, Covered, Waits, Recalled}
 use Rattle.book.specs.declared.answers.Refusal.{Refusal}
@@ -21,19 +21,19 @@ number NoRoom = 9
 number NotRecalled = 10
 
 -- what an answer or a refusal says
-abbrev pub said : Result Answer Refusal → Says
-said (result.Ok Ok) = is_ok
-said (result.Ok Granted) = is_granted
-said (result.Ok Covered) = is_covered
-said (result.Ok Waits) = is_waiting
-said (result.Ok Recalled) = is_recalled
-said (result.Err refusal) = is_refused (number refusal)
+abbrev pub answer_of : Result Answer Refusal → ModelAnswer
+answer_of (result.Ok Ok) = answer_ok
+answer_of (result.Ok Granted) = answer_granted
+answer_of (result.Ok Covered) = answer_covered
+answer_of (result.Ok Waits) = answer_waits
+answer_of (result.Ok Recalled) = answer_recalled
+answer_of (result.Err refusal) = answer_refused (number refusal)
 
 -- the words of what an answer or a refusal says
-abbrev pub answer_words : Says → List ℕ
-answer_words is_ok = codes "ok"
-answer_words is_granted = codes "granted"
-answer_words is_covered = codes "covered"
-answer_words is_waiting = codes "waits"
-answer_words is_recalled = codes "recalled"
-answer_words (is_refused number) = codes "refused " ++ decimal number
+abbrev pub answer_words : ModelAnswer → List ℕ
+answer_words answer_ok = codes "ok"
+answer_words answer_granted = codes "granted"
+answer_words answer_covered = codes "covered"
+answer_words answer_waits = codes "waits"
+answer_words answer_recalled = codes "recalled"
+answer_words (answer_refused number) = codes "refused " ++ decimal number

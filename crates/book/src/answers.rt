@@ -1,7 +1,7 @@
 // What the book answers.
 ghost use Rattle.std.specs.Prelude.{◌≡◌, Ok, Some};
-ghost use Rattle.model.specs.Calls.{is_refused};
-ghost use Rattle.book.specs.Said.{said, number, answer_words};
+ghost use Rattle.model.specs.Calls.{answer_refused};
+ghost use Rattle.book.specs.Said.{answer_of, number, answer_words};
 ghost use Rattle.book.specs.declared.answers.Refusal.TheVariants.{NotKnown};
 
 use std::error::Error;
@@ -26,7 +26,7 @@ pub enum Answer {
 impl Answer {
     // The word of the answer, as it is printed.
     pub fn name(self) -> &'static str
-        ensures { result.now ≡ answer_words (said (Ok self)) }
+        ensures { result.now ≡ answer_words (answer_of (Ok self)) }
     {
         match self {
             Answer::Ok => "ok",
@@ -39,7 +39,7 @@ impl Answer {
 }
 
 impl fmt::Display for Answer {
-    ghost output = { λ answer. Some (answer_words (said (Ok answer))) };
+    ghost output = { λ answer. Some (answer_words (answer_of (Ok answer))) };
 
     fn fmt<W: fmt::Write>(&self, f: &mut fmt::Formatter<W>) -> fmt::Result {
         f.write_str(self.name())
@@ -81,7 +81,7 @@ impl Refusal {
 }
 
 impl fmt::Display for Refusal {
-    ghost output = { λ refusal. Some (answer_words (is_refused (number refusal))) };
+    ghost output = { λ refusal. Some (answer_words (answer_refused (number refusal))) };
 
     fn fmt<W: fmt::Write>(&self, f: &mut fmt::Formatter<W>) -> fmt::Result {
         write!(f, "refused {}", self.number())

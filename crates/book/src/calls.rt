@@ -2,7 +2,7 @@
 ghost use Rattle.std.specs.Prelude.{◌≡◌};
 ghost use Rattle.model.specs.State.{new as new_state};
 ghost use Rattle.model.specs.declared.call.Call.TheVariants.{Open, Claim as ClaimCall, Close, Withdraw, Acknowledge, Sweep};
-ghost use Rattle.book.specs.Carried.{Done};
+ghost use Rattle.book.specs.Carried.{CarriesOut};
 ghost use Rattle.book.specs.Held.{state};
 
 use crate::answers::{Answer, Refusal};
@@ -36,7 +36,7 @@ impl<T: UseTable, O: RecallOrder> Book<T, O> {
         weight: u32,
         report: &mut Report,
     ) -> Result<Answer, Refusal>
-        ensures { Done T.meaning O.meaning self.old (Open dispatch weight) result report.new self.new }
+        ensures { CarriesOut T.meaning O.meaning self.old (Open dispatch weight) result report.new self.new }
     {
         *report = Report::empty();
         let newcomer = self.tables.check_open(dispatch, weight)?;
@@ -53,7 +53,7 @@ impl<T: UseTable, O: RecallOrder> Book<T, O> {
         mode: u32,
         report: &mut Report,
     ) -> Result<Answer, Refusal>
-        ensures { Done T.meaning O.meaning self.old (ClaimCall dispatch section mode) result report.new self.new }
+        ensures { CarriesOut T.meaning O.meaning self.old (ClaimCall dispatch section mode) result report.new self.new }
     {
         *report = Report::empty();
         let table = &self.policy.table;
@@ -77,7 +77,7 @@ impl<T: UseTable, O: RecallOrder> Book<T, O> {
 
     // Closes a dispatch that runs (commits).
     pub fn close(&mut self, dispatch: u32, report: &mut Report) -> Result<Answer, Refusal>
-        ensures { Done T.meaning O.meaning self.old (Close dispatch) result report.new self.new }
+        ensures { CarriesOut T.meaning O.meaning self.old (Close dispatch) result report.new self.new }
     {
         *report = Report::empty();
         let number = self.tables.check_close(&self.policy.table, dispatch)?;
@@ -87,7 +87,7 @@ impl<T: UseTable, O: RecallOrder> Book<T, O> {
 
     // Withdraws a dispatch, running or waiting (aborts).
     pub fn withdraw(&mut self, dispatch: u32, report: &mut Report) -> Result<Answer, Refusal>
-        ensures { Done T.meaning O.meaning self.old (Withdraw dispatch) result report.new self.new }
+        ensures { CarriesOut T.meaning O.meaning self.old (Withdraw dispatch) result report.new self.new }
     {
         *report = Report::empty();
         let number = self.tables.check_withdraw(dispatch)?;
@@ -97,7 +97,7 @@ impl<T: UseTable, O: RecallOrder> Book<T, O> {
 
     // Takes note of a recall: the dispatch is free again.
     pub fn acknowledge(&mut self, dispatch: u32, report: &mut Report) -> Result<Answer, Refusal>
-        ensures { Done T.meaning O.meaning self.old (Acknowledge dispatch) result report.new self.new }
+        ensures { CarriesOut T.meaning O.meaning self.old (Acknowledge dispatch) result report.new self.new }
     {
         *report = Report::empty();
         let number = self.tables.check_acknowledge(dispatch)?;
@@ -107,7 +107,7 @@ impl<T: UseTable, O: RecallOrder> Book<T, O> {
 
     // Looks for cycles of waits, and recalls until none stands (a deadlock detection run).
     pub fn sweep(&mut self, report: &mut Report) -> Result<Answer, Refusal>
-        ensures { Done T.meaning O.meaning self.old Sweep result report.new self.new }
+        ensures { CarriesOut T.meaning O.meaning self.old Sweep result report.new self.new }
     {
         let before = self.tables.waiting_sections(&self.policy.table);
         *report = self.tables.recall_all(&self.policy);

@@ -1,5 +1,5 @@
 // Any call, with the law over runs.
-ghost use Rattle.book.specs.Carried.{Done, KeepsLaw};
+ghost use Rattle.book.specs.Carried.{CarriesOut, KeepsLaw};
 
 use crate::answers::{Answer, Refusal};
 use crate::book::Book;
@@ -12,7 +12,7 @@ impl<T: UseTable, O: RecallOrder> Book<T, O> {
     // Carries out any call. For every run of calls that has led to the book, the run with this call
     // and this outcome added keeps exclusion, progress and recall.
     pub fn carry_out(&mut self, asked: Call, report: &mut Report) -> Result<Answer, Refusal>
-        ensures done { Done T.meaning O.meaning self.old asked result report.new self.new }
+        ensures done { CarriesOut T.meaning O.meaning self.old asked result report.new self.new }
         ensures law { KeepsLaw T.meaning O.meaning self.old asked result report.new self.new }
     {
         match asked {

@@ -3,11 +3,11 @@ ghost use Rattle.std.specs.Prelude.{◌≡◌, [], ◌∷◌, length, nat_le};
 ghost use Rattle.model.specs.Claims.{dispatch_waits};
 ghost use Rattle.model.specs.Calls.{refusal, number_too_high, section_too_high, unknown_use, weight_too_high, recalled_already, open_already, free_already, waiting_already, not_recalled};
 ghost use Rattle.book.specs.Held.{state};
-ghost use Rattle.book.specs.Verdict.{Verdict};
+ghost use Rattle.book.specs.Verdict.{IsChecked};
 
 use crate::answers::Refusal;
 use crate::tables::Tables;
-use model::state::{Claim, Opened};
+use model::state::{Claim, OpenEntry};
 use uses::table::UseTable;
 
 const LAST_NUMBER: u32 = 63;
@@ -20,7 +20,7 @@ const MOST_CLAIMS: usize = 512;
 
 // The dispatch number, if it is one.
 pub fn number(dispatch: u32) -> Result<u8, Refusal>
-    ensures { Verdict result (refusal (number_too_high dispatch ∷ [])) (λ n. n ≡ dispatch) }
+    ensures { IsChecked result (refusal (number_too_high dispatch ∷ [])) (λ n. n ≡ dispatch) }
 {
     if dispatch > LAST_NUMBER {
         return Err(Refusal::NumberTooHigh);
@@ -32,7 +32,7 @@ pub fn number(dispatch: u32) -> Result<u8, Refusal>
 // Kept: beside `number`. They differ in type, limit and refusal, which one generic function would
 // be passed at each call.
 pub fn section_number(section: u32) -> Result<u16, Refusal>
-    ensures { Verdict result (refusal (section_too_high section ∷ [])) (λ n. n ≡ section) }
+    ensures { IsChecked result (refusal (section_too_high section ∷ [])) (λ n. n ≡ section) }
 {
     if section > LAST_SECTION {
         return Err(Refusal::SectionTooHigh);
@@ -56,8 +56,8 @@ impl Tables {
     }
 
     // May the dispatch be opened with this weight?
-    pub(crate) fn check_open(&self, dispatch: u32, weight: u32) -> Result<Opened, Refusal>
-        ensures { Verdict result (refusal (number_too_high dispatch ∷ weight_too_high weight ∷ recalled_already (state self.now) dispatch ∷ open_already (state self.now) dispatch ∷ [])) (λ e. e ≡ record { dispatch = dispatch; weight = weight }) }
+    pub(crate) fn check_open(&self, dispatch: u32, weight: u32) -> Result<OpenEntry, Refusal>
+        ensures { IsChecked result (refusal (number_too_high dispatch ∷ weight_too_high weight ∷ recalled_already (state self.now) dispatch ∷ open_already (state self.now) dispatch ∷ [])) (λ e. e ≡ record { dispatch = dispatch; weight = weight }) }
     {
         let newcomer = number(dispatch)?;
         if weight > HEAVIEST {
@@ -69,7 +69,7 @@ impl Tables {
         if self.is_open(newcomer) {
             return Err(Refusal::IsOpen);
         }
-        Ok(Opened {
+        Ok(OpenEntry {
             dispatch: newcomer,
             weight: weight as u16,
         })
@@ -77,7 +77,7 @@ impl Tables {
 
     // Is the dispatch open?
     pub(crate) fn check_withdraw(&self, dispatch: u32) -> Result<u8, Refusal>
-        ensures { Verdict result (refusal (number_too_high dispatch ∷ recalled_already (state self.now) dispatch ∷ free_already (state self.now) dispatch ∷ [])) (λ n. n ≡ dispatch) }
+        ensures { IsChecked result (refusal (number_too_high dispatch ∷ recalled_already (state self.now) dispatch ∷ free_already (state self.now) dispatch ∷ [])) (λ n. n ≡ dispatch) }
     {
         let number = number(dispatch)?;
         if self.recalled.contains(number) {
@@ -91,7 +91,7 @@ impl Tables {
 
     // Is the dispatch open, and does it run?
     pub(crate) fn check_close<T: UseTable>(&self, table: &T, dispatch: u32) -> Result<u8, Refusal>
-        ensures { Verdict result (refusal (number_too_high dispatch ∷ recalled_already (state self.now) dispatch ∷ free_already (state self.now) dispatch ∷ waiting_already (T.meaning table.now) (state self.now) dispatch ∷ [])) (λ n. n ≡ dispatch) }
+        ensures { IsChecked result (refusal (number_too_high dispatch ∷ recalled_already (state self.now) dispatch ∷ free_already (state self.now) dispatch ∷ waiting_already (T.meaning table.now) (state self.now) dispatch ∷ [])) (λ n. n ≡ dispatch) }
     {
         let number = self.check_withdraw(dispatch)?;
         if self.waits(table, number) {
@@ -108,7 +108,7 @@ impl Tables {
         section: u32,
         mode: u32,
     ) -> Result<Claim, Refusal>
-        ensures { Verdict result (refusal (number_too_high dispatch ∷ section_too_high section ∷ unknown_use (T.meaning table.now) mode ∷ recalled_already (state self.now) dispatch ∷ free_already (state self.now) dispatch ∷ waiting_already (T.meaning table.now) (state self.now) dispatch ∷ [])) (λ c. c ≡ record { dispatch = dispatch; section = section; mode = mode }) }
+        ensures { IsChecked result (refusal (number_too_high dispatch ∷ section_too_high section ∷ unknown_use (T.meaning table.now) mode ∷ recalled_already (state self.now) dispatch ∷ free_already (state self.now) dispatch ∷ waiting_already (T.meaning table.now) (state self.now) dispatch ∷ [])) (λ c. c ≡ record { dispatch = dispatch; section = section; mode = mode }) }
     {
         let claimant = number(dispatch)?;
         let section = section_number(section)?;
@@ -131,7 +131,7 @@ impl Tables {
 
     // Is the dispatch recalled?
     pub(crate) fn check_acknowledge(&self, dispatch: u32) -> Result<u8, Refusal>
-        ensures { Verdict result (refusal (number_too_high dispatch ∷ not_recalled (state self.now) dispatch ∷ [])) (λ n. n ≡ dispatch) }
+        ensures { IsChecked result (refusal (number_too_high dispatch ∷ not_recalled (state self.now) dispatch ∷ [])) (λ n. n ≡ dispatch) }
     {
         let number = number(dispatch)?;
         if !self.recalled.contains(number) {

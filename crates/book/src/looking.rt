@@ -1,6 +1,6 @@
 // Looking for cycles of waits, and for who goes first of those on one.
 ghost use Rattle.std.specs.Prelude.{◌≡◌, ℕ, filter};
-ghost use Rattle.marks.specs.Marks.{marked};
+ghost use Rattle.dispatch_set.specs.DispatchSet.{contains};
 ghost use Rattle.cycles.specs.Rows.{relation};
 ghost use Rattle.model.specs.Claims.{waits_for};
 ghost use Rattle.model.specs.State.{numbers};
@@ -12,7 +12,7 @@ use crate::opened::{standing, weight};
 use crate::policy::Policy;
 use crate::tables::Tables;
 use cycles::on_cycles;
-use marks::Marks;
+use dispatch_set::DispatchSet;
 use orders::order::{RecallOrder, Summary};
 use std::array;
 use uses::table::UseTable;
@@ -20,7 +20,7 @@ use uses::table::UseTable;
 impl Tables {
     // For each dispatch, the dispatches for which it waits: the rows of the waits-for graph.
     // Kept: an array, in fixed memory, with a place for each number.
-    fn waiting_rows<T: UseTable>(&self, table: &T) -> [Marks; 64]
+    fn waiting_rows<T: UseTable>(&self, table: &T) -> [DispatchSet; 64]
         ensures { (a b : ℕ) → relation result a b ≡ waits_for (T.meaning table.now) (state self.now).claims a b }
     {
         array::from_fn(|d| self.claims.waits_for(table, d as u8))
@@ -60,8 +60,12 @@ impl Tables {
     }
 
     // The first in the recall order of the marked open dispatches.
-    fn first_of<T: UseTable, O: RecallOrder>(&self, policy: &Policy<T, O>, set: Marks) -> Option<u8>
-        ensures { result ≡ first (T.meaning policy.now.table) (O.meaning policy.now.order) (state self.now) (filter (marked set) (numbers (state self.now).opened)) }
+    fn first_of<T: UseTable, O: RecallOrder>(
+        &self,
+        policy: &Policy<T, O>,
+        set: DispatchSet,
+    ) -> Option<u8>
+        ensures { result ≡ first (T.meaning policy.now.table) (O.meaning policy.now.order) (state self.now) (filter (contains set) (numbers (state self.now).opened)) }
     {
         let mut best = None;
         for e in self.opened.rows() {

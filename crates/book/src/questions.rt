@@ -1,17 +1,17 @@
 // The three questions.
 ghost use Rattle.std.specs.Prelude.{◌≡◌, [], ◌∷◌};
-ghost use Rattle.marks.specs.Marks.{marked};
+ghost use Rattle.dispatch_set.specs.DispatchSet.{contains};
 ghost use Rattle.model.specs.Questions.{condition as model_condition, waited_for as waited_for_by, holders as holders_of};
 ghost use Rattle.model.specs.Calls.{refusal, number_too_high, section_too_high};
 ghost use Rattle.book.specs.Asked.{condition_answered};
 ghost use Rattle.book.specs.Held.{state};
-ghost use Rattle.book.specs.Verdict.{Verdict};
+ghost use Rattle.book.specs.Verdict.{IsChecked};
 
 use crate::answers::Refusal;
 use crate::book::Book;
 use crate::checks::{number, section_number};
 use crate::tables::Tables;
-use marks::Marks;
+use dispatch_set::DispatchSet;
 use model::state::Condition;
 use uses::table::UseTable;
 
@@ -54,22 +54,22 @@ impl<T: UseTable, O> Book<T, O> {
     // Marks the dispatches for which the dispatch waits. Refused by 1, and then all marks are off.
     // Kept: here and below, marks in a place of the caller's beside the `Result`, since a refused
     // question turns them all off, which an `Err` would not say.
-    pub fn waited_for(&self, dispatch: u32, marks: &mut Marks) -> Result<(), Refusal>
-        ensures answered { Verdict result (refusal (number_too_high dispatch ∷ [])) (λ _. Unit {0}) }
-        ensures found { marked marks.new ≡ waited_for_by (T.meaning self.now.policy.table) (state self.now.tables) dispatch }
+    pub fn waited_for(&self, dispatch: u32, marks: &mut DispatchSet) -> Result<(), Refusal>
+        ensures answered { IsChecked result (refusal (number_too_high dispatch ∷ [])) (λ _. Unit {0}) }
+        ensures found { contains marks.new ≡ waited_for_by (T.meaning self.now.policy.table) (state self.now.tables) dispatch }
     {
-        *marks = Marks::none();
+        *marks = DispatchSet::none();
         let number = number(dispatch)?;
         *marks = self.tables.claims.waits_for(&self.policy.table, number);
         Ok(())
     }
 
     // Marks the dispatches with a held claim on the section. Refused by 2, and then all marks are off.
-    pub fn holders(&self, section: u32, marks: &mut Marks) -> Result<(), Refusal>
-        ensures answered { Verdict result (refusal (section_too_high section ∷ [])) (λ _. Unit {0}) }
-        ensures found { marked marks.new ≡ holders_of (T.meaning self.now.policy.table) (state self.now.tables) section }
+    pub fn holders(&self, section: u32, marks: &mut DispatchSet) -> Result<(), Refusal>
+        ensures answered { IsChecked result (refusal (section_too_high section ∷ [])) (λ _. Unit {0}) }
+        ensures found { contains marks.new ≡ holders_of (T.meaning self.now.policy.table) (state self.now.tables) section }
     {
-        *marks = Marks::none();
+        *marks = DispatchSet::none();
         let section = section_number(section)?;
         *marks = self.tables.claims.holders(&self.policy.table, section);
         Ok(())

@@ -1,12 +1,12 @@
 // Recalling until no cycle of waits stands.
 ghost use Rattle.std.specs.Prelude.{◌≡◌, []};
-ghost use Rattle.model.specs.Recalling.{recalling};
-ghost use Rattle.model.specs.Calls.{filled};
+ghost use Rattle.model.specs.Recalling.{recall_result};
+ghost use Rattle.model.specs.Calls.{report_of};
 ghost use Rattle.book.specs.Held.{state};
 
 use crate::policy::Policy;
 use crate::tables::Tables;
-use model::report::{Named, Report};
+use model::report::{Report, ReportEntry};
 use orders::order::RecallOrder;
 use uses::table::UseTable;
 
@@ -16,8 +16,8 @@ impl Tables {
         &mut self,
         policy: &Policy<T, O>,
     ) -> Report
-        ensures after { state self.new ≡ (recalling (T.meaning policy.now.table) (O.meaning policy.now.order) (state self.old)).state }
-        ensures named { result ≡ filled (recalling (T.meaning policy.now.table) (O.meaning policy.now.order) (state self.old)).recalls [] }
+        ensures after { state self.new ≡ (recall_result (T.meaning policy.now.table) (O.meaning policy.now.order) (state self.old)).state }
+        ensures named { result ≡ report_of (recall_result (T.meaning policy.now.table) (O.meaning policy.now.order) (state self.old)).recalls [] }
     {
         let mut report = Report::empty();
         for _turn in 0..64u8 {
@@ -29,7 +29,7 @@ impl Tables {
             let waiting = self.claims.waiting_section(&policy.table, dispatch);
             let section = waiting.unwrap_or(65535);
             self.recall(dispatch);
-            report.name_recalled(Named { dispatch, section });
+            report.name_recalled(ReportEntry { dispatch, section });
         }
         report
     }

@@ -5,9 +5,9 @@ ghost use Rattle.model.specs.Search.{member, is_distinct};
 ghost use Rattle.model.specs.State.{numbers};
 
 use claims::claim_table::ClaimTable;
-use lists::FixedList;
-use marks::Marks;
-use model::state::{Detection, Opened};
+use dispatch_set::DispatchSet;
+use fixed_list::FixedList;
+use model::state::{Detection, OpenEntry};
 
 // The open list, the recalled set and the claim table, and when cycles are looked for.
 // Kept: the methods are lent the use table or the policy. With it inside, each contract of a method
@@ -15,8 +15,8 @@ use model::state::{Detection, Opened};
 #[derive(Drop)]
 pub struct Tables {
     pub(crate) detection: Detection,
-    pub(crate) opened: FixedList<Opened, 64>,
-    pub(crate) recalled: Marks,
+    pub(crate) opened: FixedList<OpenEntry, 64>,
+    pub(crate) recalled: DispatchSet,
     pub(crate) claims: ClaimTable,
     // open numbers differ
     ghost distinct: { is_distinct nat_eq (numbers opened) ≡ true },

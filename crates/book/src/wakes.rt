@@ -1,15 +1,15 @@
 // Naming who is woken.
 ghost use Rattle.std.specs.Prelude.{◌≡◌, ◌+◌, ◌<◌, ◌≤◌, not, ◌&&◌, List, [], ◌∷◌, ◌++◌, length, if◌then◌else◌};
 ghost use Rattle.model.specs.Claims.{dispatch_waits};
-ghost use Rattle.model.specs.State.{State, taken_out};
-ghost use Rattle.model.specs.Recalling.{named};
-ghost use Rattle.model.specs.Calls.{filled, woken};
-ghost use Rattle.model.specs.declared.report.Named.{Named};
+ghost use Rattle.model.specs.State.{State, state_without};
+ghost use Rattle.model.specs.Recalling.{entry_of};
+ghost use Rattle.model.specs.Calls.{report_of, woken};
+ghost use Rattle.model.specs.declared.report.ReportEntry.{ReportEntry};
 ghost use Rattle.book.specs.Held.{state};
 ghost use Rattle.book.specs.Before.{SectionsOf};
 
 use crate::tables::Tables;
-use model::report::{Named, Report};
+use model::report::{Report, ReportEntry};
 use std::array;
 use uses::table::UseTable;
 
@@ -32,7 +32,7 @@ impl Tables {
     )
         requires small { dispatch < 64 }
         requires room { report.old.recalled + report.old.woken < 64 }
-        ensures named { (s : State) (rs ws : List Named) → SectionsOf (T.meaning table.now) s before.now → report.old ≡ filled rs ws → report.new ≡ filled rs (ws ++ (if dispatch_waits (T.meaning table.now) s.claims dispatch && not (dispatch_waits (T.meaning table.now) (state self.now).claims dispatch) then named (T.meaning table.now) s dispatch ∷ [] else [])) }
+        ensures named { (s : State) (rs ws : List ReportEntry) → SectionsOf (T.meaning table.now) s before.now → report.old ≡ report_of rs ws → report.new ≡ report_of rs (ws ++ (if dispatch_waits (T.meaning table.now) s.claims dispatch && not (dispatch_waits (T.meaning table.now) (state self.now).claims dispatch) then entry_of (T.meaning table.now) s dispatch ∷ [] else [])) }
         ensures recalled { report.new.recalled ≡ report.old.recalled }
         ensures one { report.new.woken ≤ report.old.woken + 1 }
     {
@@ -40,7 +40,7 @@ impl Tables {
             return;
         };
         if self.claims.waiting_section(table, dispatch).is_none() {
-            report.name_woken(Named { dispatch, section });
+            report.name_woken(ReportEntry { dispatch, section });
         }
     }
 
@@ -53,7 +53,7 @@ impl Tables {
     )
         requires none { report.old.woken ≡ 0 }
         requires room { report.old.recalled + length (state self.now).opened ≤ 64 }
-        ensures { (s : State) (rs : List Named) → SectionsOf (T.meaning table.now) s before.now → report.old ≡ filled rs [] → report.new ≡ filled rs (woken (T.meaning table.now) s (state self.now)) }
+        ensures { (s : State) (rs : List ReportEntry) → SectionsOf (T.meaning table.now) s before.now → report.old ≡ report_of rs [] → report.new ≡ report_of rs (woken (T.meaning table.now) s (state self.now)) }
     {
         for e in self.opened.rows() {
             self.name_if_woken(table, before, e.dispatch, report);
@@ -62,8 +62,8 @@ impl Tables {
 
     // Takes out an open dispatch, and reports who is woken by it.
     pub(crate) fn end<T: UseTable>(&mut self, table: &T, dispatch: u8) -> Report
-        ensures after { state self.new ≡ taken_out dispatch (state self.old) }
-        ensures named { result ≡ filled [] (woken (T.meaning table.now) (state self.old) (taken_out dispatch (state self.old))) }
+        ensures after { state self.new ≡ state_without dispatch (state self.old) }
+        ensures named { result ≡ report_of [] (woken (T.meaning table.now) (state self.old) (state_without dispatch (state self.old))) }
     {
         let before = self.waiting_sections(table);
         self.take_out(dispatch);

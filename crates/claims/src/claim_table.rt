@@ -1,14 +1,14 @@
 // The claim table (a lock table): the claims of a book, in order of arrival. The contracts speak of
 // it as the list of its claims.
 ghost use Rattle.std.specs.Prelude.{◌≡◌, ◌<◌, ◌≤◌, [], ◌∷◌, ◌++◌, length};
-ghost use Rattle.marks.specs.Marks.{marked};
-ghost use Rattle.model.specs.Claims.{without, covered, blocks, waiting_section, held as held_claims, waits_for, holds, placed_claims};
+ghost use Rattle.dispatch_set.specs.DispatchSet.{contains};
+ghost use Rattle.model.specs.Claims.{without, is_covered, blocks, waiting_section, held_count as held_claims, waits_for, holds, in_line};
 ghost use Rattle.model.specs.Search.{any};
 
 use crate::blocking;
 use crate::places::Places;
-use lists::FixedList;
-use marks::Marks;
+use dispatch_set::DispatchSet;
+use fixed_list::FixedList;
 use model::state::Claim;
 use std::marker::Model;
 use uses::table::UseTable;
@@ -73,7 +73,7 @@ impl ClaimTable {
 
     // Does some claim of the dispatch on the section cover the use?
     pub fn is_covered<T: UseTable>(&self, table: &T, d: u8, section: u16, mode: u32) -> bool
-        ensures { result ≡ covered (T.meaning table.now) self.now d section mode }
+        ensures { result ≡ is_covered (T.meaning table.now) self.now d section mode }
     {
         self.list.rows().iter().any(|c| {
             c.dispatch == d && c.section == section && table.covers(c.mode, mode)
@@ -106,10 +106,10 @@ impl ClaimTable {
     }
 
     // The dispatches for which the dispatch waits (its successors in the waits-for graph).
-    pub fn waits_for<T: UseTable>(&self, table: &T, d: u8) -> Marks
-        ensures { marked result ≡ waits_for (T.meaning table.now) self.now d }
+    pub fn waits_for<T: UseTable>(&self, table: &T, d: u8) -> DispatchSet
+        ensures { contains result ≡ waits_for (T.meaning table.now) self.now d }
     {
-        let mut found = Marks::none();
+        let mut found = DispatchSet::none();
         for p in self.places() {
             if p.claim.dispatch == d {
                 found = found.union(p.blockers(table));
@@ -119,10 +119,10 @@ impl ClaimTable {
     }
 
     // The dispatches that hold a claim on the section.
-    pub fn holders<T: UseTable>(&self, table: &T, section: u16) -> Marks
-        ensures { marked result ≡ holds (T.meaning table.now) self.now section }
+    pub fn holders<T: UseTable>(&self, table: &T, section: u16) -> DispatchSet
+        ensures { contains result ≡ holds (T.meaning table.now) self.now section }
     {
-        let mut found = Marks::none();
+        let mut found = DispatchSet::none();
         for p in self.places() {
             if p.claim.section == section && !p.waits(table) {
                 found.insert(p.claim.dispatch);
@@ -133,7 +133,7 @@ impl ClaimTable {
 
     // The claims in their places, in order.
     fn places(&self) -> Places<'_>
-        ensures value { result ≡ placed_claims self.now }
+        ensures value { result ≡ in_line self.now }
         ensures fits { length result ≤ 512 }
     {
         Places {

@@ -2,36 +2,36 @@
 // as the list of those that are left.
 ghost use Rattle.std.specs.Prelude.{◌≡◌, ◌&&◌};
 ghost use Rattle.std.specs.Iterator.{YieldsFirst, item_count};
-ghost use Rattle.marks.specs.Marks.{marked};
+ghost use Rattle.dispatch_set.specs.DispatchSet.{contains};
 ghost use Rattle.model.specs.Claims.{of, blocks as blocking, waits};
 ghost use Rattle.model.specs.Search.{any};
 
 use crate::blocking::{blocks, is_blocked};
-use marks::Marks;
+use dispatch_set::DispatchSet;
 use model::state::Claim;
 use std::marker::Model;
 use uses::table::UseTable;
 
 // A claim with the claims that stand earlier, each of a dispatch below 64.
 #[derive(Drop)]
-pub struct Placed<'a> {
+pub struct InLine<'a> {
     pub earlier: &'a [Claim],
     pub claim: Claim,
 }
 
-impl<'a> Model for Placed<'a> {
+impl<'a> Model for InLine<'a> {
     ghost use Rattle.std.specs.Prelude.{◌<◌};
     ghost use Rattle.std.specs.List.{All};
-    ghost use Rattle.model.specs.Claims.{Placed as PlacedClaim};
+    ghost use Rattle.model.specs.Claims.{InLine as ModelInLine};
 
-    ghost Value = { PlacedClaim };
+    ghost Value = { ModelInLine };
 
     ghost view = { λ p. record { earlier = p.earlier.now; claim = p.claim } };
 
     ghost invariant = { λ p. (p.claim.dispatch < 64) × All (λ c. c.dispatch < 64) p.earlier.now };
 }
 
-impl<'a> Placed<'a> {
+impl<'a> InLine<'a> {
     // Does the claim wait: does some earlier claim block it?
     pub fn waits<T: UseTable>(&self, table: &T) -> bool
         ensures { result ≡ waits (T.meaning table.now) self.now }
@@ -40,10 +40,10 @@ impl<'a> Placed<'a> {
     }
 
     // The dispatches whose earlier claims block the claim.
-    pub fn blockers<T: UseTable>(&self, table: &T) -> Marks
-        ensures { marked result ≡ (λ e. any (λ b. of e b && blocking (T.meaning table.now) b self.now.claim) self.now.earlier) }
+    pub fn blockers<T: UseTable>(&self, table: &T) -> DispatchSet
+        ensures { contains result ≡ (λ e. any (λ b. of e b && blocking (T.meaning table.now) b self.now.claim) self.now.earlier) }
     {
-        let mut found = Marks::none();
+        let mut found = DispatchSet::none();
         for b in self.earlier {
             if blocks(table, b, &self.claim) {
                 found.insert(b.dispatch);
@@ -65,26 +65,26 @@ pub struct Places<'a> {
 impl<'a> Model for Places<'a> {
     ghost use Rattle.std.specs.Prelude.{◌<◌, List, take, drop};
     ghost use Rattle.std.specs.List.{All};
-    ghost use Rattle.model.specs.Claims.{Placed as PlacedClaim, placed_behind};
+    ghost use Rattle.model.specs.Claims.{InLine as ModelInLine, in_line_behind};
 
-    ghost Value = { List PlacedClaim };
+    ghost Value = { List ModelInLine };
 
-    ghost view = { λ s. placed_behind (take s.next s.claims.now) (drop s.next s.claims.now) };
+    ghost view = { λ s. in_line_behind (take s.next s.claims.now) (drop s.next s.claims.now) };
 
     ghost invariant = { λ s. All (λ c. c.dispatch < 64) s.claims.now };
 }
 
 impl<'a> Iterator for Places<'a> {
-    type Item = Placed<'a>;
+    type Item = InLine<'a>;
 
     ghost next_gives = { YieldsFirst (λ s. s) };
 
     ghost remaining = { item_count (λ s. s) };
 
-    fn next(&mut self) -> Option<Placed<'a>> {
+    fn next(&mut self) -> Option<InLine<'a>> {
         let claim = *self.claims.get(self.next)?;
         let earlier = &self.claims[..self.next];
         self.next += 1;
-        Some(Placed { earlier, claim })
+        Some(InLine { earlier, claim })
     }
 }

@@ -4,9 +4,9 @@
 // continuous, has the two uses look and move, and recalls the newest.
 use model::state::Detection;
 use orders::single::Newest;
+use session::console::Console;
+use session::serving::serve;
 use std::io;
-use transcripts::console::Console;
-use transcripts::serving::serve;
 use uses::two_uses::TwoUses;
 
 fn main(rt: HostRuntime) -> io::Result<()> {

@@ -2,9 +2,9 @@
 use Rattle.std.proofs.Common.{◌≡◌, ℕ, zero, suc, ◌+◌, ◌<◌, Bool, true, eqb, List, [], ◌∷◌, ◌++◌, get_or, Decides, sym, refl, ap, ◌∙◌, add-one, arith}
 use Rattle.std.proofs.lemmas.List.Folds.{list_any-append}
 use Rattle.std.proofs.lemmas.Bool.Decides.{nat_tests, Decides-at}
-use Rattle.marks.specs.declared.Marks.{Marks}
-use Rattle.marks.specs.Marks.{marked, unmarked}
-use Rattle.marks.proofs.Bits.{marked_below}
+use Rattle.dispatch_set.specs.declared.DispatchSet.{DispatchSet}
+use Rattle.dispatch_set.specs.DispatchSet.{contains, empty_set}
+use Rattle.dispatch_set.proofs.Bits.{marked_below}
 use Rattle.model.specs.Search.{member}
 use Rattle.model.specs.Graph.{OnCycle, by_way_of, closure}
 use Rattle.model.proofs.Graphs.{on_cycle_exact}
@@ -33,7 +33,7 @@ below_member zero b h = grind arith
 below_member (suc n) b h = grind (arith, nat_tests, below_member n b, list_any-append (λ m. eqb m b) (numbers_below n) (n ∷ []))
 
 -- whose own row marks them once the rows are closed are on a cycle of the rows
-pub closed_exact : (rows closed : List Marks) (own : Marks) → relation closed ≡ closure (numbers_below 64) (relation rows) → ((a : ℕ) → marked own a ≡ relation closed a a) → (a : ℕ) → Decides (marked own a) (OnCycle (relation rows) a)
+pub closed_exact : (rows closed : List DispatchSet) (own : DispatchSet) → relation closed ≡ closure (numbers_below 64) (relation rows) → ((a : ℕ) → contains own a ≡ relation closed a a) → (a : ℕ) → Decides (contains own a) (OnCycle (relation rows) a)
 closed_exact rows closed own e h a =
-    Decides-at (marked own a) (closure (numbers_below 64) (relation rows) a a) (h a ∙ (λ i. e i a a))
-    (on_cycle_exact (numbers_below 64) (relation rows) (λ c b s. below_member 64 b (marked_below (get_or rows c unmarked) b s)) a)
+    Decides-at (contains own a) (closure (numbers_below 64) (relation rows) a a) (h a ∙ (λ i. e i a a))
+    (on_cycle_exact (numbers_below 64) (relation rows) (λ c b s. below_member 64 b (marked_below (get_or rows c empty_set) b s)) a)

@@ -2,28 +2,28 @@
 use Rattle.std.proofs.Common.{◌≡◌, ℕ, ◌≤◌, false, cond, ◌&&◌, ltb, List, length, ap, ◌∙◌, arith}
 use lib.ListN.{get_or-eq_default}
 use Rattle.std.proofs.lemmas.Bool.Decides.{nat_tests}
-use Rattle.marks.specs.declared.Marks.{Marks}
-use Rattle.marks.specs.Marks.{marked, unmarked}
-use Rattle.marks.proofs.Bits.{none_marked}
+use Rattle.dispatch_set.specs.declared.DispatchSet.{DispatchSet}
+use Rattle.dispatch_set.specs.DispatchSet.{contains, empty_set}
+use Rattle.dispatch_set.proofs.Bits.{none_marked}
 use Rattle.model.specs.Graph.{by_way_of}
 use Rattle.cycles.specs.Rows.{relation}
 
 -- the rows before a have the steps by way of k too, and the others are as they were
-abbrev pub Stepped : ℕ → List Marks → ℕ → List Marks → Type 0
+abbrev pub Stepped : ℕ → List DispatchSet → ℕ → List DispatchSet → Type 0
 Stepped k old a rows =
     (length old ≡ 64) × (length rows ≡ 64)
     × ((j b : ℕ) → relation rows j b ≡ cond (ltb j a) (by_way_of k (relation old) j b) (relation old j b))
 
 -- own marks the numbers before a whose own row marks them
-abbrev pub Collected : List Marks → ℕ → Marks → Type 0
-Collected rows a own = (length rows ≡ 64) × ((j : ℕ) → marked own j ≡ (ltb j a && relation rows j j))
+abbrev pub Collected : List DispatchSet → ℕ → DispatchSet → Type 0
+Collected rows a own = (length rows ≡ 64) × ((j : ℕ) → contains own j ≡ (ltb j a && relation rows j j))
 
 -- no step leads from a number that has no row
-no_row : (rows : List Marks) (j b : ℕ) → length rows ≤ j → relation rows j b ≡ false
-no_row rows j b h = ap (λ m. marked m b) (get_or-eq_default rows unmarked h) ∙ (λ i. none_marked i b)
+no_row : (rows : List DispatchSet) (j b : ℕ) → length rows ≤ j → relation rows j b ≡ false
+no_row rows j b h = ap (λ m. contains m b) (get_or-eq_default rows empty_set h) ∙ (λ i. none_marked i b)
 
 -- once every row has the steps by way of k, the relation has them
-pub all_stepped : (k : ℕ) (old : List Marks) (a : ℕ) (rows : List Marks) → 64 ≤ a → Stepped k old a rows → relation rows ≡ by_way_of k (relation old)
+pub all_stepped : (k : ℕ) (old : List DispatchSet) (a : ℕ) (rows : List DispatchSet) → 64 ≤ a → Stepped k old a rows → relation rows ≡ by_way_of k (relation old)
 all_stepped k old a rows h s =
     λ i j b. at j b i
   where
@@ -31,5 +31,5 @@ all_stepped k old a rows h s =
     at j b = grind (arith, nat_tests, s.2 j b, no_row old j b, no_row old j k)
 
 -- once every row is looked at, own marks each number whose own row marks it
-pub all_collected : (rows : List Marks) (a : ℕ) (own : Marks) → 64 ≤ a → Collected rows a own → (j : ℕ) → marked own j ≡ relation rows j j
+pub all_collected : (rows : List DispatchSet) (a : ℕ) (own : DispatchSet) → 64 ≤ a → Collected rows a own → (j : ℕ) → contains own j ≡ relation rows j j
 all_collected rows a own h s j = grind (arith, nat_tests, s.1 j, no_row rows j j)

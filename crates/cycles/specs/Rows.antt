@@ -1,11 +1,11 @@
 -- Rows of marks as a relation.
 use Rattle.std.specs.Prelude.{ℕ, zero, suc, Bool, List, [], ◌∷◌, ◌++◌, slice_index_or}
-use Rattle.marks.specs.declared.Marks.{Marks}
-use Rattle.marks.specs.Marks.{marked, unmarked}
+use Rattle.dispatch_set.specs.declared.DispatchSet.{DispatchSet}
+use Rattle.dispatch_set.specs.DispatchSet.{contains, empty_set}
 
 -- row a marks the numbers to which a step from a leads
-abbrev pub relation : List Marks → ℕ → ℕ → Bool
-relation rows a b = marked (slice_index_or rows a unmarked) b
+abbrev pub relation : List DispatchSet → ℕ → ℕ → Bool
+relation rows a b = contains (slice_index_or rows a empty_set) b
 
 -- the numbers below n in their order
 unfoldable pub numbers_below : ℕ → List ℕ

@@ -7,35 +7,35 @@ use Rattle.std.proofs.lemmas.Bool.{and_parts, and_from, or_left, eq-eqb, not_fro
 use Rattle.std.proofs.lemmas.Bool.Decides.{nat_tests}
 use Rattle.uses.specs.Relations.{Relations, UseLaws}
 use Rattle.model.specs.Search.{any, find}
-use Rattle.model.specs.Claims.{Placed, placed_behind, placed_claims, of, blocks, waits, dispatch_waits, waits_for, waiting_section, waiting_claims, covered, claim_waits, without}
+use Rattle.model.specs.Claims.{InLine, in_line_behind, in_line, of, blocks, waits, dispatch_waits, waits_for, waiting_section, waiting_claims, is_covered, claim_waits, without}
 use Rattle.model.specs.declared.state.Claim.{Claim}
 use Rattle.model.proofs.Anys.{any_append, any_wider, any_map, any_found, kept_nothing, find_any}
 
 -- the claim in its place, with the claims of the dispatch taken out before it
-abbrev pub strip : ℕ → Placed → Placed
+abbrev pub strip : ℕ → InLine → InLine
 strip d p = record { earlier = without d p.earlier; claim = p.claim }
 
 -- a claim pushed to claims that stand behind others
-placed_behind_push : (earlier cs : List Claim) (c : Claim) → placed_behind earlier (cs ++ c ∷ []) ≡ placed_behind earlier cs ++ record { earlier = earlier ++ cs; claim = c } ∷ []
+placed_behind_push : (earlier cs : List Claim) (c : Claim) → in_line_behind earlier (cs ++ c ∷ []) ≡ in_line_behind earlier cs ++ record { earlier = earlier ++ cs; claim = c } ∷ []
 placed_behind_push earlier [] c = rw append-nil
 placed_behind_push earlier (b ∷ cs) c = rw (placed_behind_push (earlier ++ b ∷ []) cs c, append_assoc)
 
 -- a pushed claim stands behind all others
-pub placed_push : (cs : List Claim) (c : Claim) → placed_claims (cs ++ c ∷ []) ≡ placed_claims cs ++ record { earlier = cs; claim = c } ∷ []
+pub placed_push : (cs : List Claim) (c : Claim) → in_line (cs ++ c ∷ []) ≡ in_line cs ++ record { earlier = cs; claim = c } ∷ []
 placed_push cs c = placed_behind_push [] cs c
 
 -- a dispatch taken out of claims that stand behind others, and out of those
-placed_behind_without : (d : ℕ) (earlier cs : List Claim) → placed_behind (without d earlier) (without d cs) ≡ map (strip d) (filter (λ p. not (of d p.claim)) (placed_behind earlier cs))
+placed_behind_without : (d : ℕ) (earlier cs : List Claim) → in_line_behind (without d earlier) (without d cs) ≡ map (strip d) (filter (λ p. not (of d p.claim)) (in_line_behind earlier cs))
 placed_behind_without d earlier [] = refl
 placed_behind_without d earlier (c ∷ cs) = grind (arith, placed_behind_without d (earlier ++ c ∷ []) cs, filter-append (λ b. not (of d b)) earlier (c ∷ []), append-nil (without d earlier))
 
 -- taking a dispatch out takes its claims out of their places and out of what stands before the others
-pub placed_without : (d : ℕ) (cs : List Claim) → placed_claims (without d cs) ≡ map (strip d) (filter (λ p. not (of d p.claim)) (placed_claims cs))
+pub placed_without : (d : ℕ) (cs : List Claim) → in_line (without d cs) ≡ map (strip d) (filter (λ p. not (of d p.claim)) (in_line cs))
 placed_without d cs = placed_behind_without d [] cs
 
 -- a test of placed claims on a list with a claim pushed
-any_push : (q : Placed → Bool) (cs : List Claim) (c : Claim) → any q (placed_claims (cs ++ c ∷ [])) ≡ (any q (placed_claims cs) || q (record { earlier = cs; claim = c }))
-any_push q cs c = rw (placed_push cs c, any_append q (placed_claims cs) (record { earlier = cs; claim = c } ∷ []), or-false)
+any_push : (q : InLine → Bool) (cs : List Claim) (c : Claim) → any q (in_line (cs ++ c ∷ [])) ≡ (any q (in_line cs) || q (record { earlier = cs; claim = c }))
+any_push q cs c = rw (placed_push cs c, any_append q (in_line cs) (record { earlier = cs; claim = c } ∷ []), or-false)
 
 -- where the claims of x are filtered out, a claim of d passes exactly when d is not x and it passed before
 any_of_kept : {X : Type 0} (g : X → Claim) (d x : ℕ) (r : X → Bool) (ps : List X) → any (λ p. of d (g p) && r p) (filter (λ p. not (of x (g p))) ps) ≡ (not (eqb d x) && any (λ p. of d (g p) && r p) ps)
@@ -53,13 +53,13 @@ any_fewer p q [] = λ h. h
 any_fewer p q (x ∷ xs) = λ h. grind (arith, any_fewer p q xs)
 
 -- a test of the claims alone may be made in their places
-pub any_claims : (q : Claim → Bool) (earlier cs : List Claim) → any (λ p. q p.claim) (placed_behind earlier cs) ≡ any q cs
+pub any_claims : (q : Claim → Bool) (earlier cs : List Claim) → any (λ p. q p.claim) (in_line_behind earlier cs) ≡ any q cs
 any_claims q earlier [] = refl
 any_claims q earlier (c ∷ cs) = rw (any_claims q (earlier ++ c ∷ []) cs)
 
 -- a claim of d on a list without x, in its place, passes exactly when d is not x and it passes with x taken out before it
-any_of_without : (d x : ℕ) (r : Placed → Bool) (cs : List Claim) → any (λ p. of d p.claim && r p) (placed_claims (without x cs)) ≡ (not (eqb d x) && any (λ p. of d p.claim && r (strip x p)) (placed_claims cs))
-any_of_without d x r cs = rw (placed_without x cs, any_map) (any_of_kept (λ p. p.claim) d x (λ p. r (strip x p)) (placed_claims cs))
+any_of_without : (d x : ℕ) (r : InLine → Bool) (cs : List Claim) → any (λ p. of d p.claim && r p) (in_line (without x cs)) ≡ (not (eqb d x) && any (λ p. of d p.claim && r (strip x p)) (in_line cs))
+any_of_without d x r cs = rw (placed_without x cs, any_map) (any_of_kept (λ p. p.claim) d x (λ p. r (strip x p)) (in_line cs))
 
 -- fewer are kept after a filter and a change, where what passes changed passes unchanged
 kept_fewer : {X : Type 0} (q k : X → Bool) (f : X → X) → ((x : X) → q (f x) ≡ true → q x ≡ true) → (xs : List X) → length (filter q (map f (filter k xs))) ≤ length (filter q xs)
@@ -67,7 +67,7 @@ kept_fewer q k f back [] = omega arith
 kept_fewer q k f back (x ∷ xs) = grind (arith, back x, kept_fewer q k f back xs)
 
 -- what is found earlier is found in the whole list
-any_earlier : (r : Claim → Bool) (earlier cs : List Claim) → any (λ p. any r p.earlier) (placed_behind earlier cs) ≡ true → any r (earlier ++ cs) ≡ true
+any_earlier : (r : Claim → Bool) (earlier cs : List Claim) → any (λ p. any r p.earlier) (in_line_behind earlier cs) ≡ true → any r (earlier ++ cs) ≡ true
 any_earlier r earlier [] = λ h. grind arith
 any_earlier r earlier (c ∷ cs) = λ h. grind (arith, any_earlier r (earlier ++ c ∷ []) cs, any_append r earlier (c ∷ cs), append_assoc earlier (c ∷ []) cs)
 
@@ -78,7 +78,7 @@ some_mapped f (Some x) = refl
 
 -- the dispatch has a held claim on the section that covers the use
 abbrev pub backed : Relations → List Claim → ℕ → ℕ → ℕ → Bool
-backed u cs d section mode = any (λ p. of d p.claim && (eqb p.claim.section section && (u.cover p.claim.mode mode && not (waits u p)))) (placed_claims cs)
+backed u cs d section mode = any (λ p. of d p.claim && (eqb p.claim.section section && (u.cover p.claim.mode mode && not (waits u p)))) (in_line cs)
 
 module _ (u : Relations) where
   -- the claim is the dispatch's, is on the section, and covers the use
@@ -86,15 +86,15 @@ module _ (u : Relations) where
   covers d s m c = of d c && (eqb c.section s && u.cover c.mode m)
 
   -- the placed claim is the dispatch's and waits
-  abbrev waiting : ℕ → Placed → Bool
+  abbrev waiting : ℕ → InLine → Bool
   waiting d p = of d p.claim && waits u p
 
   -- a claim of the dispatch blocks the placed claim
-  abbrev blocked_by : ℕ → Placed → Bool
+  abbrev blocked_by : ℕ → InLine → Bool
   blocked_by e p = any (λ b. of e b && blocks u b p.claim) p.earlier
 
   -- who is blocked by a dispatch's claim waits
-  blocked_waits : (e : ℕ) (p : Placed) → blocked_by e p ≡ true → waits u p ≡ true
+  blocked_waits : (e : ℕ) (p : InLine) → blocked_by e p ≡ true → waits u p ≡ true
   blocked_waits e p h = any_wider _ _ (λ b k. (and_parts _ _ k).1) p.earlier h
 
   -- a pushed claim adds the steps from its dispatch to those whose claims block it
@@ -102,7 +102,7 @@ module _ (u : Relations) where
   waits_for_push cs c d e = any_push (λ p. of d p.claim && blocked_by e p) cs c
 
   -- with x taken out, a claim of e blocks exactly when e is not x and it blocked before
-  blocked_without : (e x : ℕ) (p : Placed) → blocked_by e (strip x p) ≡ (not (eqb e x) && blocked_by e p)
+  blocked_without : (e x : ℕ) (p : InLine) → blocked_by e (strip x p) ≡ (not (eqb e x) && blocked_by e p)
   blocked_without e x p = any_of_kept (λ b. b) e x (λ b. blocks u b p.claim) p.earlier
 
   -- taking a dispatch out takes exactly the steps from it and to it away
@@ -114,13 +114,13 @@ module _ (u : Relations) where
   dispatch_waits_push cs c d = any_push (waiting d) cs c
 
   -- with fewer claims before it a claim waits less
-  waits_less : (x : ℕ) (p : Placed) → waits u (strip x p) ≡ true → waits u p ≡ true
+  waits_less : (x : ℕ) (p : InLine) → waits u (strip x p) ≡ true → waits u p ≡ true
   waits_less x p h = any_fewer (λ b. not (of x b)) (λ b. blocks u b p.claim) p.earlier h
 
   -- who waits waits for some dispatch
   pub waits_waits_for : (cs : List Claim) (d : ℕ) → dispatch_waits u cs d ≡ true → (e : ℕ) × (waits_for u cs d e ≡ true)
   waits_waits_for cs d h =
-      let p = any_found (waiting d) (placed_claims cs) h in
+      let p = any_found (waiting d) (in_line cs) h in
       let parts = and_parts (of d p.0.claim) (waits u p.0) p.1 in
       let b = any_found (λ b. blocks u b p.0.claim) p.0.earlier parts.1 in
       let e = b.0.dispatch in
@@ -129,25 +129,25 @@ module _ (u : Relations) where
   -- both ends of a step have claims
   pub waits_for_ends : (cs : List Claim) (d e : ℕ) → waits_for u cs d e ≡ true → (any (of d) cs ≡ true) × (any (of e) cs ≡ true)
   waits_for_ends cs d e h = (
-    rw (any_claims (of d) [] cs) at (any_wider _ (λ p. of d p.claim) (λ p k. (and_parts _ _ k).0) (placed_claims cs) h),
-    any_earlier (of e) [] cs (any_wider _ (λ p. any (of e) p.earlier) (λ p k. any_wider _ (of e) (λ b l. (and_parts _ _ l).0) p.earlier (and_parts _ _ k).1) (placed_claims cs) h),
+    rw (any_claims (of d) [] cs) at (any_wider _ (λ p. of d p.claim) (λ p k. (and_parts _ _ k).0) (in_line cs) h),
+    any_earlier (of e) [] cs (any_wider _ (λ p. any (of e) p.earlier) (λ p k. any_wider _ (of e) (λ b l. (and_parts _ _ l).0) p.earlier (and_parts _ _ k).1) (in_line cs) h),
   )
 
   -- a push adds one waiting claim if the claim is blocked
   pub waiting_claims_push : (cs : List Claim) (c : Claim) (d : ℕ) → waiting_claims u (cs ++ c ∷ []) d ≡ waiting_claims u cs d + cond (of d c && any (λ b. blocks u b c) cs) 1 0
-  waiting_claims_push cs c d = rw (placed_push cs c, filter-append (waiting d) (placed_claims cs) (record { earlier = cs; claim = c } ∷ []), length-append) (grind arith)
+  waiting_claims_push cs c d = rw (placed_push cs c, filter-append (waiting d) (in_line cs) (record { earlier = cs; claim = c } ∷ []), length-append) (grind arith)
 
   -- taking a dispatch out makes no claim wait
   pub waiting_claims_without : (cs : List Claim) (x d : ℕ) → waiting_claims u (without x cs) d ≤ waiting_claims u cs d
-  waiting_claims_without cs x d = rw (placed_without x cs) (kept_fewer (waiting d) (λ p. not (of x p.claim)) (strip x) (λ p k. grind (arith, waits_less x p)) (placed_claims cs))
+  waiting_claims_without cs x d = rw (placed_without x cs) (kept_fewer (waiting d) (λ p. not (of x p.claim)) (strip x) (λ p k. grind (arith, waits_less x p)) (in_line cs))
 
   -- who does not wait has no waiting claim
   pub waiting_claims_none : (cs : List Claim) (d : ℕ) → dispatch_waits u cs d ≡ false → waiting_claims u cs d ≡ 0
-  waiting_claims_none cs d h = ap (λ (ps : List Placed). length ps) (kept_nothing (waiting d) (placed_claims cs) h)
+  waiting_claims_none cs d h = ap (λ (ps : List InLine). length ps) (kept_nothing (waiting d) (in_line cs) h)
 
   -- there is a section waited for exactly when the dispatch waits
   pub waiting_section_some : (cs : List Claim) (d : ℕ) → is_some (waiting_section u cs d) ≡ dispatch_waits u cs d
-  waiting_section_some cs d = some_mapped (λ p. p.claim.section) (find (waiting d) (placed_claims cs)) ∙ find_any (waiting d) (placed_claims cs)
+  waiting_section_some cs d = some_mapped (λ p. p.claim.section) (find (waiting d) (in_line cs)) ∙ find_any (waiting d) (in_line cs)
 
   -- a push takes nothing that is held
   pub backed_push : (cs : List Claim) (c : Claim) (d s m : ℕ) → backed u cs d s m ≡ true → backed u (cs ++ c ∷ []) d s m ≡ true
@@ -157,16 +157,16 @@ module _ (u : Relations) where
   pub backed_without : (cs : List Claim) (x d s m : ℕ) → eqb d x ≡ false → backed u cs d s m ≡ true → backed u (without x cs) d s m ≡ true
   backed_without cs x d s m other h =
       rw (any_of_without d x (λ p. eqb p.claim.section s && (u.cover p.claim.mode m && not (waits u p))) cs)
-      (and_from _ _ (not_from_false _ other) (any_wider _ _ (λ p k. grind (arith, waits_less x p)) (placed_claims cs) h))
+      (and_from _ _ (not_from_false _ other) (any_wider _ _ (λ p k. grind (arith, waits_less x p)) (in_line cs) h))
 
   -- who does not wait holds every use that its claims cover
-  pub backed_covered : (cs : List Claim) (d s m : ℕ) → dispatch_waits u cs d ≡ false → covered u cs d s m ≡ true → backed u cs d s m ≡ true
+  pub backed_covered : (cs : List Claim) (d s m : ℕ) → dispatch_waits u cs d ≡ false → is_covered u cs d s m ≡ true → backed u cs d s m ≡ true
   backed_covered cs d s m ready h =
-      let p = any_found (λ p. covers d s m p.claim) (placed_claims cs) (any_claims (covers d s m) [] cs ∙ h) in
+      let p = any_found (λ p. covers d s m p.claim) (in_line cs) (any_claims (covers d s m) [] cs ∙ h) in
       p.2 (λ q. of d q.claim && (eqb q.claim.section s && (u.cover q.claim.mode m && not (waits u q)))) (grind (arith, p.1, p.2 (waiting d)))
 
   -- behind a claim of the first kind, which blocks each of the second, none of the second is held
-  none_held : (A B : Claim → Bool) → ((a b : Claim) → A a ≡ true → B b ≡ true → blocks u a b ≡ true) → (earlier cs : List Claim) → any A earlier ≡ true → any (λ p. B p.claim && not (waits u p)) (placed_behind earlier cs) ≡ false
+  none_held : (A B : Claim → Bool) → ((a b : Claim) → A a ≡ true → B b ≡ true → blocks u a b ≡ true) → (earlier cs : List Claim) → any A earlier ≡ true → any (λ p. B p.claim && not (waits u p)) (in_line_behind earlier cs) ≡ false
   none_held A B clash earlier [] = λ h. refl
   none_held A B clash earlier (c ∷ cs) = λ h.
       let blocked : B c ≡ true → any (λ b. blocks u b c) earlier ≡ true = λ k. any_wider A (λ b. blocks u b c) (λ a l. clash a c l k) earlier h in
@@ -174,7 +174,7 @@ module _ (u : Relations) where
 
   -- of two kinds that block each other, one is not held
   not_both : (A B : Claim → Bool) → ((a b : Claim) → A a ≡ true → B b ≡ true → (blocks u a b ≡ true) × (blocks u b a ≡ true)) → (earlier cs : List Claim) →
-      (any (λ p. A p.claim && not (waits u p)) (placed_behind earlier cs) && any (λ p. B p.claim && not (waits u p)) (placed_behind earlier cs)) ≡ false
+      (any (λ p. A p.claim && not (waits u p)) (in_line_behind earlier cs) && any (λ p. B p.claim && not (waits u p)) (in_line_behind earlier cs)) ≡ false
   not_both A B clash earlier [] = refl
   not_both A B clash earlier (c ∷ cs) =
       grind (
@@ -198,25 +198,25 @@ module _ (u : Relations) where
   backed_apart cs d e s m n laws other first second = elim (cases_Bool (u.conflict m n)) [
     | inl h ↦ absurd (both_ways _ (not_both (covers d s m) (covers e s n)
         (λ a b k l. let c = conflict_covers laws a.mode b.mode m n in let turned = laws.symmetric a.mode b.mode in (grind (arith, nat_tests), grind (arith, nat_tests))) [] cs)
-        (and_from _ _ (any_wider _ _ (λ p k. grind arith) (placed_claims cs) first) (any_wider _ _ (λ p k. grind arith) (placed_claims cs) second)))
+        (and_from _ _ (any_wider _ _ (λ p k. grind arith) (in_line cs) first) (any_wider _ _ (λ p k. grind arith) (in_line cs) second)))
     | inr apart ↦ apart
   ]
 
   -- a pushed claim covers its use
-  pub covered_push_new : (cs : List Claim) (d s m : ℕ) → u.cover m m ≡ true → covered u (cs ++ record { dispatch = d; section = s; mode = m } ∷ []) d s m ≡ true
+  pub covered_push_new : (cs : List Claim) (d s m : ℕ) → u.cover m m ≡ true → is_covered u (cs ++ record { dispatch = d; section = s; mode = m } ∷ []) d s m ≡ true
   covered_push_new cs d s m itself = rw any_append (grind (arith, nat_tests))
 
   -- a push leaves covered what was covered
-  pub covered_push : (cs : List Claim) (c : Claim) (d s m : ℕ) → covered u cs d s m ≡ true → covered u (cs ++ c ∷ []) d s m ≡ true
+  pub covered_push : (cs : List Claim) (c : Claim) (d s m : ℕ) → is_covered u cs d s m ≡ true → is_covered u (cs ++ c ∷ []) d s m ≡ true
   covered_push cs c d s m h = rw any_append (or_left _ _ h)
 
   -- taking another dispatch out changes nothing that is covered
-  pub covered_without : (cs : List Claim) (x d s m : ℕ) → eqb d x ≡ false → covered u (without x cs) d s m ≡ covered u cs d s m
+  pub covered_without : (cs : List Claim) (x d s m : ℕ) → eqb d x ≡ false → is_covered u (without x cs) d s m ≡ is_covered u cs d s m
   covered_without cs x d s m other = any_of_kept (λ c. c) d x (λ c. eqb c.section s && u.cover c.mode m) cs ∙ rw other
 
   -- a waiting claim covers its use
-  pub covered_waiting : (cs : List Claim) (d s m : ℕ) → u.cover m m ≡ true → claim_waits u cs d s m ≡ true → covered u cs d s m ≡ true
-  covered_waiting cs d s m itself h = rw (any_claims (covers d s m) [] cs) at (any_wider _ (λ p. covers d s m p.claim) (λ p k. grind (arith, nat_tests)) (placed_claims cs) h)
+  pub covered_waiting : (cs : List Claim) (d s m : ℕ) → u.cover m m ≡ true → claim_waits u cs d s m ≡ true → is_covered u cs d s m ≡ true
+  covered_waiting cs d s m itself h = rw (any_claims (covers d s m) [] cs) at (any_wider _ (λ p. covers d s m p.claim) (λ p k. grind (arith, nat_tests)) (in_line cs) h)
 
   -- a claim that nothing blocks adds no step
   pub no_edge : (cs : List Claim) (c : Claim) → any (λ b. blocks u b c) cs ≡ false → (d e : ℕ) → waits_for u (cs ++ c ∷ []) d e ≡ waits_for u cs d e

@@ -8,7 +8,7 @@ use Rattle.uses.specs.Relations.{Relations}
 use Rattle.orders.specs.Laws.{OrderLaws}
 use Rattle.model.specs.Search.{member, last, is_distinct}
 use Rattle.model.specs.State.{State, numbers}
-use Rattle.model.specs.Recalling.{Order, named, standing, strictly_before, unbeaten, first}
+use Rattle.model.specs.Recalling.{Order, entry_of, standing, strictly_before, unbeaten, first}
 use Rattle.model.specs.Claims.{dispatch_waits}
 use Rattle.model.specs.Calls.{Effect, checks, refusal, effect_by, woken, step}
 use Rattle.model.specs.Invariant.{WellFormed}
@@ -17,8 +17,8 @@ use Rattle.model.specs.Law.{once_entered}
 use Rattle.model.specs.Theorems.{FirstExact, ReportFits}
 use Rattle.model.specs.declared.call.Call.{Call}
 use Rattle.model.specs.declared.call.Call.TheVariants as call
-use Rattle.model.specs.declared.report.Named.{Named}
-use Rattle.model.specs.declared.state.Opened.{Opened}
+use Rattle.model.specs.declared.report.ReportEntry.{ReportEntry}
+use Rattle.model.specs.declared.state.OpenEntry.{OpenEntry}
 use Rattle.model.proofs.Numbers.{all_pass_member, all_pass_from, closed_shorter, kept_by_shorter}
 use Rattle.model.proofs.Victims.{member_kept, kept_none}
 use Rattle.model.proofs.Recalls.{Grounded, grounded_recall, Recalls, done, next, first_none, first_some, cycle_open}
@@ -26,7 +26,7 @@ use Rattle.model.proofs.Steps.{Looked, looks, looks_not, looks_or_recalls_nobody
 use Rattle.model.proofs.LawHolds.{few_open}
 
 -- different open dispatches have different standings
-standing_apart : (es : List Opened) (d e : ℕ) → member d (numbers es) ≡ true → member e (numbers es) ≡ true → standing es d ≡ standing es e → d ≡ e
+standing_apart : (es : List OpenEntry) (d e : ℕ) → member d (numbers es) ≡ true → member e (numbers es) ≡ true → standing es d ≡ standing es e → d ≡ e
 standing_apart [] d e h k same = absurd (false≢true h)
 standing_apart (x ∷ xs) d e h k same = grind (arith, nat_tests, standing_apart xs d e)
 
@@ -40,11 +40,11 @@ not_among : (x d : ℕ) (xs : List ℕ) → list_all (λ y. not (eqb x y)) xs �
 not_among x d xs h k = not-true (eqb x d) (all_pass_member (λ y. not (eqb x y)) d xs h k)
 
 -- e, if it is open and passes, has no greater standing than d
-abbrev Newest : (ℕ → Bool) → List Opened → ℕ → ℕ → Type 0
+abbrev Newest : (ℕ → Bool) → List OpenEntry → ℕ → ℕ → Type 0
 Newest q es d e = member e (numbers es) ≡ true → q e ≡ true → standing es e ≤ standing es d
 
 -- one more open dispatch in front, and d behind it
-newest_behind : (q : ℕ → Bool) (x : Opened) (es : List Opened) (d e : ℕ) → list_all (λ y. not (eqb x.dispatch y)) (numbers es) ≡ true → member d (numbers es) ≡ true → Newest q es d e → Newest q (x ∷ es) d e
+newest_behind : (q : ℕ → Bool) (x : OpenEntry) (es : List OpenEntry) (d e : ℕ) → list_all (λ y. not (eqb x.dispatch y)) (numbers es) ≡ true → member d (numbers es) ≡ true → Newest q es d e → Newest q (x ∷ es) d e
 newest_behind q x es d e differs there rest m t = grind (arith, nat_tests, rest, not_among x.dispatch d (numbers es) differs there, m, t)
 
 -- the last of a list is its only element, or the last of the rest
@@ -53,11 +53,11 @@ last_cases y d [] l = inl (refl, cc)
 last_cases y d (k ∷ ks) l = inr l
 
 -- the one in front is the only one who passes
-newest_alone : (q : ℕ → Bool) (x : Opened) (es : List Opened) (d e : ℕ) → filter q (numbers es) ≡ [] → x.dispatch ≡ d → Newest q (x ∷ es) d e
+newest_alone : (q : ℕ → Bool) (x : OpenEntry) (es : List OpenEntry) (d e : ℕ) → filter q (numbers es) ≡ [] → x.dispatch ≡ d → Newest q (x ∷ es) d e
 newest_alone q x es d e none is m t = grind (arith, nat_tests, is, m, kept_none q e (numbers es) none t)
 
 -- the last of those who pass is open, and has the greatest standing of those who pass
-last_newest : (q : ℕ → Bool) (es : List Opened) (d e : ℕ) → is_distinct eqb (numbers es) ≡ true → last (filter q (numbers es)) ≡ Some d → (member d (numbers es) ≡ true) × Newest q es d e
+last_newest : (q : ℕ → Bool) (es : List OpenEntry) (d e : ℕ) → is_distinct eqb (numbers es) ≡ true → last (filter q (numbers es)) ≡ Some d → (member d (numbers es) ≡ true) × Newest q es d e
 last_newest q [] d e h k = cc
 last_newest q (x ∷ xs) d e h k =
     let parts = and_parts (list_all (λ y. not (eqb x.dispatch y)) (numbers xs)) (is_distinct eqb (numbers xs)) h in
@@ -107,7 +107,7 @@ first_exact u o lawful s w among d =
     (first_is u o lawful s w among d, λ a. is_first u o lawful s w among d a (first u o s (filter among (numbers s.opened))) refl)
 
 -- each recall takes one open dispatch out
-pub recalls_shorten : (u : Relations) (o : Order) {s t : State} {ns : List Named} → Recalls u o s ns t → Grounded s → length ns + length t.opened ≤ length s.opened
+pub recalls_shorten : (u : Relations) (o : Order) {s t : State} {ns : List ReportEntry} → Recalls u o s ns t → Grounded s → length ns + length t.opened ≤ length s.opened
 recalls_shorten u o (done clear) g = omega arith
 recalls_shorten u o {s} (next {n = n} cycle best rest) g =
     let shorter = closed_shorter n.dispatch s.opened (cycle_open u s g n.dispatch cycle) in
@@ -119,7 +119,7 @@ woken_few : (u : Relations) (s t : State) → length (woken u s t) ≤ length t.
 woken_few u s t =
     let runs : ℕ → Bool = λ d. dispatch_waits u s.claims d && not (dispatch_waits u t.claims d) in
     let kept = kept_by_shorter runs (numbers t.opened) in
-    let named_so = length-map (filter runs (numbers t.opened)) (named u s) in
+    let named_so = length-map (filter runs (numbers t.opened)) (entry_of u s) in
     let all = length-map t.opened (λ e. e.dispatch) in
     omega arith
 

@@ -4,16 +4,16 @@ use Rattle.std.proofs.lemmas.Bool.{and_parts, eqb-true, not-true, ne_eqb}
 use Rattle.std.proofs.lemmas.Bool.Decides.{nat_tests}
 use Rattle.uses.specs.Relations.{Relations, UseLaws}
 use Rattle.orders.specs.Laws.{OrderLaws}
-use Rattle.model.specs.Claims.{placed_claims, of, waits, dispatch_waits, covered, claim_waits}
-use Rattle.model.specs.State.{State, numbers, is_open, taken_out, entered, recall}
-use Rattle.model.specs.Recalling.{Order, named, recalling}
-use Rattle.model.specs.Calls.{is_granted, is_covered, checks, refusal, Effect, after_entry, accepted, woken, step}
+use Rattle.model.specs.Claims.{in_line, of, waits, dispatch_waits, is_covered, claim_waits}
+use Rattle.model.specs.State.{State, numbers, is_open, state_without, state_with_claim, recall}
+use Rattle.model.specs.Recalling.{Order, entry_of, recall_result}
+use Rattle.model.specs.Calls.{answer_granted, answer_covered, checks, refusal, Effect, after_entry, accepted, woken, step}
 use Rattle.model.specs.Invariant.{claim_in_range, WellFormed, Invariant}
 use Rattle.model.specs.Runs.{Run, start, next, at, names, Grants, by_grant, by_cover, by_wake, Granted, just_now, before}
 use Rattle.model.specs.Law.{IsEntered, Exclusion}
 use Rattle.model.specs.declared.call.Call.{Call}
 use Rattle.model.specs.declared.call.Call.TheVariants as call
-use Rattle.model.specs.declared.report.Named.{Named}
+use Rattle.model.specs.declared.report.ReportEntry.{ReportEntry}
 use Rattle.model.specs.declared.state.Claim.{Claim}
 use Rattle.model.specs.declared.state.Detection.{Detection}
 use Rattle.model.specs.declared.state.Detection.TheVariants.{Continuous, Periodic}
@@ -27,7 +27,7 @@ use Rattle.model.proofs.Steps.{asked, effect_cases, claim_cases, answers_entered
 -- from the first state to the second, who is open at the end keeps what backs and what covers
 pub record Carries (u : Relations) (s t : State) : Type 0 where
   pub backs : (d section mode : ℕ) → is_open t d ≡ true → backed u s.claims d section mode ≡ true → backed u t.claims d section mode ≡ true
-  pub covers : (d section mode : ℕ) → is_open t d ≡ true → covered u s.claims d section mode ≡ true → covered u t.claims d section mode ≡ true
+  pub covers : (d section mode : ℕ) → is_open t d ≡ true → is_covered u s.claims d section mode ≡ true → is_covered u t.claims d section mode ≡ true
 
 -- who is open without a dispatch is another, and was open
 open_other : (s : State) (x d : ℕ) → is_open (recall x s) d ≡ true → (eqb d x ≡ false) × (is_open s d ≡ true)
@@ -35,18 +35,18 @@ open_other s x d h =
     let parts = and_parts (not (eqb d x)) (is_open s d) (sym (open_closed x d s.opened) ∙ h) in (not-true (eqb d x) parts.0, parts.1)
 
 -- who is open after recalls was open before
-recalls_open : (u : Relations) (o : Order) {s t : State} {ns : List Named} → Recalls u o s ns t → (d : ℕ) → is_open t d ≡ true → is_open s d ≡ true
+recalls_open : (u : Relations) (o : Order) {s t : State} {ns : List ReportEntry} → Recalls u o s ns t → (d : ℕ) → is_open t d ≡ true → is_open s d ≡ true
 recalls_open u o (done clear) d h = h
 recalls_open u o {s} (then {n = n} cycle best rest) d h = (open_other s n.dispatch d (recalls_open u o rest d h)).1
 
 module _ (u : Relations) where
-  taken_out_carries : (s : State) (x : ℕ) → Carries u s (taken_out x s)
+  taken_out_carries : (s : State) (x : ℕ) → Carries u s (state_without x s)
   taken_out_carries s x = record {
     backs = λ d section mode h k. backed_without u s.claims x d section mode (open_other s x d h).0 k;
     covers = λ d section mode h k. covered_without u s.claims x d section mode (open_other s x d h).0 ∙ k;
   }
 
-  entered_carries : (s : State) (c : Claim) → Carries u s (entered c s)
+  entered_carries : (s : State) (c : Claim) → Carries u s (state_with_claim c s)
   entered_carries s c = record {
     backs = λ d section mode h k. backed_push u s.claims c d section mode k;
     covers = λ d section mode h k. covered_push u s.claims c d section mode k;
@@ -55,10 +55,10 @@ module _ (u : Relations) where
   same_carries : (s t : State) → s.claims ≡ t.claims → Carries u s t
   same_carries s t e = record {
     backs = λ d section mode h k. subst (λ (cs : List Claim). backed u cs d section mode ≡ true) e k;
-    covers = λ d section mode h k. subst (λ (cs : List Claim). covered u cs d section mode ≡ true) e k;
+    covers = λ d section mode h k. subst (λ (cs : List Claim). is_covered u cs d section mode ≡ true) e k;
   }
 
-  recalls_carries : (o : Order) {s t : State} {ns : List Named} → Recalls u o s ns t → Carries u s t
+  recalls_carries : (o : Order) {s t : State} {ns : List ReportEntry} → Recalls u o s ns t → Carries u s t
   recalls_carries o {s} (done clear) = same_carries s s refl
   recalls_carries o {s} (then {n = n} cycle best rest) =
       let first = taken_out_carries s n.dispatch in
@@ -69,7 +69,7 @@ module _ (u : Relations) where
       }
 
 module _ (u : Relations) (o : Order) (lawful : OrderLaws o) (s : State) (w : WellFormed u s) where
-  recalling_carries : (t : State) → WellFormed u t → Carries u t (recalling u o t).state
+  recalling_carries : (t : State) → WellFormed u t → Carries u t (recall_result u o t).state
   recalling_carries t kept = recalls_carries u o (recalling_recalls u o lawful t (grounded u t kept))
 
   entry_carries : (t : State) → WellFormed u t → (detection : Detection) → Carries u t (after_entry u o detection t).state
@@ -80,13 +80,13 @@ module _ (u : Relations) (o : Order) (lawful : OrderLaws o) (s : State) (w : Wel
   entry_open t kept Continuous d h = recalls_open u o (recalling_recalls u o lawful t (grounded u t kept)) d h
   entry_open t kept Periodic d h = h
 
-  claimed_carries : (c : Claim) → WellFormed u (entered c s) → Carries u s (after_entry u o s.detection (entered c s)).state
+  claimed_carries : (c : Claim) → WellFormed u (state_with_claim c s) → Carries u s (after_entry u o s.detection (state_with_claim c s)).state
   claimed_carries c kept =
-      let later = entry_carries (entered c s) kept s.detection in
+      let later = entry_carries (state_with_claim c s) kept s.detection in
       let first = entered_carries u s c in
       record {
-        backs = λ d section mode h k. later.backs d section mode h (first.backs d section mode (entry_open (entered c s) kept s.detection d h) k);
-        covers = λ d section mode h k. later.covers d section mode h (first.covers d section mode (entry_open (entered c s) kept s.detection d h) k);
+        backs = λ d section mode h k. later.backs d section mode h (first.backs d section mode (entry_open (state_with_claim c s) kept s.detection d h) k);
+        covers = λ d section mode h k. later.covers d section mode h (first.covers d section mode (entry_open (state_with_claim c s) kept s.detection d h) k);
       }
 
   accepted_carries : (c : Call) → refusal (checks u s c) ≡ None → Carries u s (accepted u o s c).state
@@ -106,47 +106,47 @@ module _ (u : Relations) (o : Order) (lawful : OrderLaws o) (s : State) (w : Wel
 
 module _ (u : Relations) (laws : UseLaws u) (o : Order) (lawful : OrderLaws o) (s : State) (w : WellFormed u s) where
   -- a claim that is answered granted is backed
-  granted_backed : (d section mode : ℕ) → (step u o s (call.Claim d section mode)).answer ≡ is_granted → is_open (step u o s (call.Claim d section mode)).state d ≡ true → backed u (step u o s (call.Claim d section mode)).state.claims d section mode ≡ true
+  granted_backed : (d section mode : ℕ) → (step u o s (call.Claim d section mode)).answer ≡ answer_granted → is_open (step u o s (call.Claim d section mode)).state d ≡ true → backed u (step u o s (call.Claim d section mode)).state.claims d section mode ≡ true
   unfolding step
   granted_backed d section mode =
       let c = asked d section mode in
-      let P : Effect → Type 0 = λ e. e.answer ≡ is_granted → is_open e.state d ≡ true → backed u e.state.claims d section mode ≡ true in
+      let P : Effect → Type 0 = λ e. e.answer ≡ answer_granted → is_open e.state d ≡ true → backed u e.state.claims d section mode ≡ true in
       effect_cases u o s (call.Claim d section mode) P (λ n h a. cc)
       (λ h. claim_cases u o s d section mode P (λ k a. cc)
       (λ new a here.
       let passed = passed_claim u s d section mode h in
       let kept = entry_kept u o lawful s w d section mode passed new in
-      let entry = entry_carries u o lawful s w (entered c s) kept s.detection in
-      let r = after_entry u o s.detection (entered c s) in
+      let entry = entry_carries u o lawful s w (state_with_claim c s) kept s.detection in
+      let r = after_entry u o s.detection (state_with_claim c s) in
       backed_covered u r.state.claims d section mode (grind (arith, a))
       (entry.covers d section mode here (covered_push_new u s.claims d section mode (laws.reflexive mode (grind (arith, passed.right)))))))
 
   -- a claim that is answered covered is backed
-  covered_backed : (d section mode : ℕ) → (step u o s (call.Claim d section mode)).answer ≡ is_covered → backed u (step u o s (call.Claim d section mode)).state.claims d section mode ≡ true
+  covered_backed : (d section mode : ℕ) → (step u o s (call.Claim d section mode)).answer ≡ answer_covered → backed u (step u o s (call.Claim d section mode)).state.claims d section mode ≡ true
   unfolding step
   covered_backed d section mode =
-      let P : Effect → Type 0 = λ e. e.answer ≡ is_covered → backed u e.state.claims d section mode ≡ true in
+      let P : Effect → Type 0 = λ e. e.answer ≡ answer_covered → backed u e.state.claims d section mode ≡ true in
       effect_cases u o s (call.Claim d section mode) P (λ n h a. cc)
       (λ h. claim_cases u o s d section mode P (λ k a. backed_covered u s.claims d section mode (passed_claim u s d section mode h).runs k)
-      (λ new a. absurd (subst IsEntered a (answers_entered u d (after_entry u o s.detection (entered (asked d section mode) s))))))
+      (λ new a. absurd (subst IsEntered a (answers_entered u d (after_entry u o s.detection (state_with_claim (asked d section mode) s))))))
 
   -- whoever is named as woken runs
   woken_runs : (t : State) (d section : ℕ) → names (woken u s t) d section → dispatch_waits u t.claims d ≡ false
   woken_runs t d section h =
       let q : ℕ → Bool = λ x. dispatch_waits u s.claims x && not (dispatch_waits u t.claims x) in
-      let named_so : Named → Bool = λ n. eqb n.dispatch d && eqb n.section section in
-      let mapped_so = any_map (named u s) named_so (filter q (numbers t.opened)) in
-      let kept_so = any_kept_by q (λ x. named_so (named u s x)) (numbers t.opened) in
-      let found = any_witness (λ x. q x && named_so (named u s x)) (numbers t.opened) (sym kept_so ∙ (sym mapped_so ∙ h)) in
-      let parts = and_parts (q found.0) (named_so (named u s found.0)) found.1 in
+      let named_so : ReportEntry → Bool = λ n. eqb n.dispatch d && eqb n.section section in
+      let mapped_so = any_map (entry_of u s) named_so (filter q (numbers t.opened)) in
+      let kept_so = any_kept_by q (λ x. named_so (entry_of u s x)) (numbers t.opened) in
+      let found = any_witness (λ x. q x && named_so (entry_of u s x)) (numbers t.opened) (sym kept_so ∙ (sym mapped_so ∙ h)) in
+      let parts = and_parts (q found.0) (named_so (entry_of u s found.0)) found.1 in
       let runs = (and_parts (dispatch_waits u s.claims found.0) (not (dispatch_waits u t.claims found.0)) parts.0).1 in
-      let same = eqb-true found.0 d (and_parts (eqb found.0 d) (eqb (named u s found.0).section section) parts.1).0 in
+      let same = eqb-true found.0 d (and_parts (eqb found.0 d) (eqb (entry_of u s found.0).section section) parts.1).0 in
       subst (λ (x : ℕ). dispatch_waits u t.claims x ≡ false) same (not-true (dispatch_waits u t.claims found.0) runs)
 
   -- a use for which a claim waits is known, so it covers itself
   waiting_covers : (d section mode : ℕ) → claim_waits u s.claims d section mode ≡ true → u.cover mode mode ≡ true
   waiting_covers d section mode h =
-      let there = any_wider (λ p. of d p.claim && (eqb p.claim.section section && (eqb p.claim.mode mode && waits u p))) (λ p. eqb p.claim.mode mode) (λ p k. grind (arith, k)) (placed_claims s.claims) h in
+      let there = any_wider (λ p. of d p.claim && (eqb p.claim.section section && (eqb p.claim.mode mode && waits u p))) (λ p. eqb p.claim.mode mode) (λ p k. grind (arith, k)) (in_line s.claims) h in
       let found = any_passes (claim_in_range u s) (λ c. eqb c.mode mode) s.claims w.claims_in_range (sym (any_claims (λ c. eqb c.mode mode) [] s.claims) ∙ there) in
       laws.reflexive mode (grind (arith, nat_tests, found.1, found.2))
 
@@ -168,11 +168,11 @@ module _ (u : Relations) (laws : UseLaws u) (o : Order) (lawful : OrderLaws o) w
   grants_backed : (r : Run) (c : Call) (d section mode : ℕ) → Grants u o r c d section mode → is_open (at u o (next r c)) d ≡ true → backed u (at u o (next r c)).claims d section mode ≡ true
   grants_backed r c d section mode (by_grant e a) here =
       subst
-      (λ (x : Call). (step u o (at u o r) x).answer ≡ is_granted → is_open (step u o (at u o r) x).state d ≡ true → backed u (step u o (at u o r) x).state.claims d section mode ≡ true)
+      (λ (x : Call). (step u o (at u o r) x).answer ≡ answer_granted → is_open (step u o (at u o r) x).state d ≡ true → backed u (step u o (at u o r) x).state.claims d section mode ≡ true)
       (sym e) (granted_backed u laws o lawful (at u o r) (run_invariant r).well_formed d section mode) a here
   grants_backed r c d section mode (by_cover e a) here =
       subst
-      (λ (x : Call). (step u o (at u o r) x).answer ≡ is_covered → backed u (step u o (at u o r) x).state.claims d section mode ≡ true)
+      (λ (x : Call). (step u o (at u o r) x).answer ≡ answer_covered → backed u (step u o (at u o r) x).state.claims d section mode ≡ true)
       (sym e) (covered_backed u laws o lawful (at u o r) (run_invariant r).well_formed d section mode) a
   grants_backed r c d section mode (by_wake n waited) here =
       woken_backed u laws o lawful (at u o r) (run_invariant r).well_formed c d section mode n waited here

@@ -7,12 +7,12 @@ use Rattle.std.proofs.lemmas.Bool.Decides.{nat_tests}
 use Rattle.uses.specs.Relations.{Relations}
 use Rattle.model.specs.Search.{member}
 use Rattle.model.specs.Claims.{of, dispatch_waits, waiting_claims}
-use Rattle.model.specs.State.{State, new, numbers, is_open, taken_out, joined, recall, entered}
-use Rattle.model.specs.Calls.{opening, acknowledged}
+use Rattle.model.specs.State.{State, new, numbers, is_open, state_without, with_recalled, recall, state_with_claim}
+use Rattle.model.specs.Calls.{with_open, without_recalled}
 use Rattle.model.specs.Invariant.{entry_in_range, claim_in_range, WellFormed}
 use Rattle.model.specs.declared.state.Claim.{Claim}
 use Rattle.model.specs.declared.state.Detection.{Detection}
-use Rattle.model.specs.declared.state.Opened.{Opened}
+use Rattle.model.specs.declared.state.OpenEntry.{OpenEntry}
 use Rattle.model.proofs.ClaimLists.{waiting_claims_push, waiting_claims_without, waiting_claims_none}
 use Rattle.model.proofs.Numbers.{all_pass_filter, all_pass_wider, all_pass_push, any_passes, kept_by_shorter, open_closed, open_push, distinct_closed, distinct_push}
 use Rattle.model.proofs.Recalls.{Grounded}
@@ -30,7 +30,7 @@ module _ (u : Relations) where
     one_waits = λ d. omega arith;
   }
 
-entries_below : (d : ℕ) (es : List Opened) → list_all entry_in_range es ≡ true → member d (numbers es) ≡ true → d < 64
+entries_below : (d : ℕ) (es : List OpenEntry) → list_all entry_in_range es ≡ true → member d (numbers es) ≡ true → d < 64
 entries_below d [] h k = absurd (false≢true k)
 entries_below d (e ∷ es) h k = grind (arith, nat_tests, entries_below d es)
 
@@ -46,13 +46,13 @@ module _ (u : Relations) (s : State) (w : WellFormed u s) where
   open_below d h = entries_below d s.opened w.entries h
 
   -- taking out
-  pub taken_out_kept : (d : ℕ) → WellFormed u (taken_out d s)
+  pub taken_out_kept : (d : ℕ) → WellFormed u (state_without d s)
   taken_out_kept d = record {
     distinct = distinct_closed d s.opened w.distinct;
     entries = all_pass_filter entry_in_range (λ e. not (eqb e.dispatch d)) entry_in_range (λ e h k. h) s.opened w.entries;
     recalled_below = w.recalled_below;
     disjoint = λ e h. open_closed d e s.opened ∙ grind (arith, nat_tests, w.disjoint e h);
-    claims_in_range = all_pass_filter (claim_in_range u s) (λ c. not (of d c)) (claim_in_range u (taken_out d s)) (λ c h k. grind (arith, nat_tests, open_closed d c.dispatch s.opened)) s.claims w.claims_in_range;
+    claims_in_range = all_pass_filter (claim_in_range u s) (λ c. not (of d c)) (claim_in_range u (state_without d s)) (λ c h k. grind (arith, nat_tests, open_closed d c.dispatch s.opened)) s.claims w.claims_in_range;
     few_claims = omega (arith, kept_by_shorter (λ c. not (of d c)) s.claims, w.few_claims);
     one_waits = λ e. omega (arith, waiting_claims_without u s.claims d e, w.one_waits e);
   }
@@ -70,23 +70,23 @@ module _ (u : Relations) (s : State) (w : WellFormed u s) where
   }
 
   -- joining the recalled set, by one who is not open
-  pub joined_kept : (d : ℕ) → d < 64 → is_open s d ≡ false → WellFormed u (joined d s)
+  pub joined_kept : (d : ℕ) → d < 64 → is_open s d ≡ false → WellFormed u (with_recalled d s)
   joined_kept d low out =
-      recalled_kept (joined d s).recalled (λ e h. grind (arith, nat_tests, w.recalled_below e)) (λ e h. grind (arith, nat_tests, w.disjoint e))
+      recalled_kept (with_recalled d s).recalled (λ e h. grind (arith, nat_tests, w.recalled_below e)) (λ e h. grind (arith, nat_tests, w.disjoint e))
 
   -- leaving the recalled set
-  pub acknowledged_kept : (d : ℕ) → WellFormed u (acknowledged d s)
+  pub acknowledged_kept : (d : ℕ) → WellFormed u (without_recalled d s)
   acknowledged_kept d =
-      recalled_kept (acknowledged d s).recalled (λ e h. grind (arith, nat_tests, w.recalled_below e)) (λ e h. grind (arith, nat_tests, w.disjoint e))
+      recalled_kept (without_recalled d s).recalled (λ e h. grind (arith, nat_tests, w.recalled_below e)) (λ e h. grind (arith, nat_tests, w.disjoint e))
 
   -- opening, of one who is free
-  pub opening_kept : (d weight : ℕ) → d < 64 → weight ≤ 1000 → s.recalled d ≡ false → is_open s d ≡ false → WellFormed u (opening d weight s)
+  pub opening_kept : (d weight : ℕ) → d < 64 → weight ≤ 1000 → s.recalled d ≡ false → is_open s d ≡ false → WellFormed u (with_open d weight s)
   opening_kept d weight low light free out = record {
     distinct = distinct_push (record { dispatch = d; weight = weight }) s.opened w.distinct out;
     entries = all_pass_push entry_in_range s.opened (record { dispatch = d; weight = weight }) w.entries (grind (arith, nat_tests));
     recalled_below = w.recalled_below;
     disjoint = λ e h. grind (arith, nat_tests, w.disjoint e h, open_push (record { dispatch = d; weight = weight }) e s.opened);
-    claims_in_range = all_pass_wider (claim_in_range u s) (claim_in_range u (opening d weight s)) (λ c h. grind (arith, nat_tests, open_push (record { dispatch = d; weight = weight }) c.dispatch s.opened)) s.claims w.claims_in_range;
+    claims_in_range = all_pass_wider (claim_in_range u s) (claim_in_range u (with_open d weight s)) (λ c h. grind (arith, nat_tests, open_push (record { dispatch = d; weight = weight }) c.dispatch s.opened)) s.claims w.claims_in_range;
     few_claims = w.few_claims;
     one_waits = w.one_waits;
   }
@@ -99,7 +99,7 @@ module _ (u : Relations) (s : State) (w : WellFormed u s) where
       (λ other. grind (arith, nat_tests, pushed, other, w.one_waits e)) (cases_eq e c.dispatch)
 
   -- entering a claim in range, of one who does not wait
-  pub entered_kept : (c : Claim) → claim_in_range u s c ≡ true → dispatch_waits u s.claims c.dispatch ≡ false → length s.claims < 512 → WellFormed u (entered c s)
+  pub entered_kept : (c : Claim) → claim_in_range u s c ≡ true → dispatch_waits u s.claims c.dispatch ≡ false → length s.claims < 512 → WellFormed u (state_with_claim c s)
   entered_kept c right runs room = record {
     distinct = w.distinct;
     entries = w.entries;
@@ -113,4 +113,4 @@ module _ (u : Relations) (s : State) (w : WellFormed u s) where
 -- a recall, of one who is open
 pub recall_kept : (u : Relations) (s : State) → WellFormed u s → (d : ℕ) → is_open s d ≡ true → WellFormed u (recall d s)
 recall_kept u s w d here =
-    joined_kept u (taken_out d s) (taken_out_kept u s w d) d (open_below u s w d here) (open_closed d d s.opened ∙ grind (arith, nat_tests))
+    joined_kept u (state_without d s) (taken_out_kept u s w d) d (open_below u s w d here) (open_closed d d s.opened ∙ grind (arith, nat_tests))

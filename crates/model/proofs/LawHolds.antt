@@ -15,9 +15,9 @@ use Rattle.model.specs.Graph.{CycleStands}
 use Rattle.model.specs.Law.{Exclusion, WaitsEnd, Progress, Iff, RecallWhen, RecallWhom, EntersClaim, once_entered, once_recalled, Law}
 use Rattle.model.specs.declared.call.Call.{Call}
 use Rattle.model.specs.declared.call.Call.TheVariants as call
-use Rattle.model.specs.declared.report.Named.{Named}
+use Rattle.model.specs.declared.report.ReportEntry.{ReportEntry}
 use Rattle.model.specs.declared.state.Detection.TheVariants.{Continuous}
-use Rattle.model.specs.declared.state.Opened.{Opened}
+use Rattle.model.specs.declared.state.OpenEntry.{OpenEntry}
 use Rattle.model.proofs.Graphs.{at_most, chain_short, end_member}
 use Rattle.model.proofs.ClaimLists.{waits_waits_for}
 use Rattle.model.proofs.Recalls.{some_after, steps_open, recalls_clear, recalls_some, recalls_cycle, Right, recalls_right}
@@ -25,7 +25,7 @@ use Rattle.model.proofs.Keeps.{grounded}
 use Rattle.model.proofs.Steps.{Looked, looks, looks_not, looks_or_recalls_nobody, step_detection, step_invariant}
 use Rattle.model.proofs.Grants.{run_invariant, exclusion}
 
-numbers_below : (es : List Opened) → list_all entry_in_range es ≡ true → AllByRecursion (λ n. n < 64) (numbers es)
+numbers_below : (es : List OpenEntry) → list_all entry_in_range es ≡ true → AllByRecursion (λ n. n < 64) (numbers es)
 numbers_below [] h = tt
 numbers_below (e ∷ es) h = (grind (arith, nat_tests, h), numbers_below es (grind (arith, h)))
 
@@ -58,7 +58,7 @@ module _ (u : Relations) (o : Order) (s : State) (c : Call) (e : Effect) where
   looked_only (looks_not none other quiet) some = absurd (some none)
 
   -- whoever is recalled is the right one
-  looked_right : Looked u o s c e → (earlier later : List Named) (n : Named) → e.recalls ≡ earlier ++ n ∷ later → Right u o (once_recalled earlier (once_entered c s)) n.dispatch
+  looked_right : Looked u o s c e → (earlier later : List ReportEntry) (n : ReportEntry) → e.recalls ≡ earlier ++ n ∷ later → Right u o (once_recalled earlier (once_entered c s)) n.dispatch
   looked_right (looks g rs why) earlier later n is = recalls_right u o rs earlier later n is
   looked_right (looks_not none other quiet) earlier later n is = absurd (some_after earlier n later (sym none ∙ is))
 
@@ -83,7 +83,7 @@ module _ (u : Relations) (laws : UseLaws u) (o : Order) (lawful : OrderLaws o) (
   recall_when : RecallWhen u o r c
   unfolding step
   recall_when = record {
-    by_claim = λ k entered. looked_when u o s c (effect_by u o s c (refusal (checks u s c))) looked_at (inr (k, entered));
+    by_claim = λ k state_with_claim. looked_when u o s c (effect_by u o s c (refusal (checks u s c))) looked_at (inr (k, state_with_claim));
     by_sweep = λ is. subst (λ (x : Call). Iff ((step u o s c).recalls ≡ [] → ⊥) (CycleStands (waits_for u (once_entered x s).claims))) is (looked_when u o s c (effect_by u o s c (refusal (checks u s c))) looked_at (inl is));
     by_no_other = looked_only u o s c (effect_by u o s c (refusal (checks u s c))) looked_at;
   }

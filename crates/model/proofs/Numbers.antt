@@ -6,8 +6,8 @@ use Rattle.std.proofs.lemmas.List.Sums.{length-filter, count_by-le-length}
 use Rattle.std.proofs.lemmas.Bool.{and_parts, or_cases, or_right, false≢true}
 use Rattle.std.proofs.lemmas.Bool.Decides.{nat_tests}
 use Rattle.model.specs.Search.{any, member, is_distinct}
-use Rattle.model.specs.State.{numbers, closed}
-use Rattle.model.specs.declared.state.Opened.{Opened}
+use Rattle.model.specs.State.{numbers, entries_without}
+use Rattle.model.specs.declared.state.OpenEntry.{OpenEntry}
 
 -- what a filter keeps of those who all pass a test passes another
 pub all_pass_filter : {X : Type 0} (p r q : X → Bool) → ((x : X) → p x ≡ true → r x ≡ true → q x ≡ true) → (xs : List X) → list_all p xs ≡ true → list_all q (filter r xs) ≡ true
@@ -45,38 +45,38 @@ pub kept_by_shorter : {X : Type 0} (p : X → Bool) (xs : List X) → length (fi
 kept_by_shorter p xs = omega (arith, length-filter p xs, count_by-le-length p xs)
 
 -- who is open once one is taken out
-pub open_closed : (x d : ℕ) (es : List Opened) → member d (numbers (closed x es)) ≡ (not (eqb d x) && member d (numbers es))
+pub open_closed : (x d : ℕ) (es : List OpenEntry) → member d (numbers (entries_without x es)) ≡ (not (eqb d x) && member d (numbers es))
 open_closed x d [] = grind (arith, nat_tests)
 open_closed x d (e ∷ es) = grind (arith, nat_tests, open_closed x d es)
 
 -- taking out an open dispatch shortens the open list
-pub closed_shorter : (x : ℕ) (es : List Opened) → member x (numbers es) ≡ true → suc (length (closed x es)) ≤ length es
+pub closed_shorter : (x : ℕ) (es : List OpenEntry) → member x (numbers es) ≡ true → suc (length (entries_without x es)) ≤ length es
 closed_shorter x [] h = absurd (false≢true h)
 closed_shorter x (e ∷ es) h =
     grind (arith, nat_tests, kept_by_shorter (λ f. not (eqb f.dispatch x)) es, closed_shorter x es)
 
 -- who is open once one has joined
-pub open_push : (e : Opened) (d : ℕ) (es : List Opened) → member d (numbers (es ++ e ∷ [])) ≡ (member d (numbers es) || eqb e.dispatch d)
+pub open_push : (e : OpenEntry) (d : ℕ) (es : List OpenEntry) → member d (numbers (es ++ e ∷ [])) ≡ (member d (numbers es) || eqb e.dispatch d)
 open_push e d [] = grind (arith, nat_tests)
 open_push e d (f ∷ es) = grind (arith, nat_tests, open_push e d es)
 
 -- numbers that differ from one differ from it once others are taken out
-differs_closed : (x d : ℕ) (es : List Opened) → list_all (λ y. not (eqb d y)) (numbers es) ≡ true → list_all (λ y. not (eqb d y)) (numbers (closed x es)) ≡ true
+differs_closed : (x d : ℕ) (es : List OpenEntry) → list_all (λ y. not (eqb d y)) (numbers es) ≡ true → list_all (λ y. not (eqb d y)) (numbers (entries_without x es)) ≡ true
 differs_closed x d [] h = refl
 differs_closed x d (e ∷ es) h = grind (arith, nat_tests, differs_closed x d es)
 
 -- open numbers still differ once one is taken out
-pub distinct_closed : (x : ℕ) (es : List Opened) → is_distinct eqb (numbers es) ≡ true → is_distinct eqb (numbers (closed x es)) ≡ true
+pub distinct_closed : (x : ℕ) (es : List OpenEntry) → is_distinct eqb (numbers es) ≡ true → is_distinct eqb (numbers (entries_without x es)) ≡ true
 distinct_closed x [] h = refl
 distinct_closed x (e ∷ es) h =
     grind (arith, nat_tests, distinct_closed x es, differs_closed x e.dispatch es)
 
-differs_push : (e : Opened) (d : ℕ) (es : List Opened) → list_all (λ y. not (eqb d y)) (numbers es) ≡ true → eqb d e.dispatch ≡ false → list_all (λ y. not (eqb d y)) (numbers (es ++ e ∷ [])) ≡ true
+differs_push : (e : OpenEntry) (d : ℕ) (es : List OpenEntry) → list_all (λ y. not (eqb d y)) (numbers es) ≡ true → eqb d e.dispatch ≡ false → list_all (λ y. not (eqb d y)) (numbers (es ++ e ∷ [])) ≡ true
 differs_push e d [] h k = grind (arith, nat_tests)
 differs_push e d (f ∷ es) h k = grind (arith, nat_tests, differs_push e d es)
 
 -- open numbers differ when one joins that was not open
-pub distinct_push : (e : Opened) (es : List Opened) → is_distinct eqb (numbers es) ≡ true → member e.dispatch (numbers es) ≡ false → is_distinct eqb (numbers (es ++ e ∷ [])) ≡ true
+pub distinct_push : (e : OpenEntry) (es : List OpenEntry) → is_distinct eqb (numbers es) ≡ true → member e.dispatch (numbers es) ≡ false → is_distinct eqb (numbers (es ++ e ∷ [])) ≡ true
 distinct_push e [] h k = refl
 distinct_push e (f ∷ es) h k =
     grind (arith, nat_tests, distinct_push e es, differs_push e f.dispatch es)

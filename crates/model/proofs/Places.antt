@@ -1,8 +1,8 @@
 -- The places of a report, with one more name.
 use Rattle.std.proofs.Common.{◌≡◌, ℕ, zero, suc, ◌+◌, ◌<◌, ◌≤◌, List, [], ◌∷◌, ◌++◌, map, length, take, set, replicate, sym, ap, ◌∙◌, arith}
 use Rattle.std.proofs.lemmas.List.{length-map, length-append, length_push, map_push, append-nil, append_assoc, take-replicate}
-use Rattle.model.specs.Calls.{places, filled}
-use Rattle.model.specs.declared.report.Named.{Named}
+use Rattle.model.specs.Calls.{places, report_of}
+use Rattle.model.specs.declared.report.ReportEntry.{ReportEntry}
 use Rattle.model.specs.declared.report.Report.{Report}
 
 -- one more entry in the first n of some entries and m unused ones
@@ -14,7 +14,7 @@ front_push (suc n) unused x [] (suc m) room wide =
 front_push (suc n) unused x (y ∷ ys) m room wide = ap (λ (t : List ℕ). y ∷ t) (front_push n unused x ys m (omega arith) (omega arith))
 
 -- one more name in the 64 places
-places_push : (f : Named → ℕ) (unused : ℕ) (ns : List Named) (n : Named) (place : ℕ) → place ≡ length ns → place < 64 → set (places unused (map f ns)) place (f n) ≡ places unused (map f (ns ++ n ∷ []))
+places_push : (f : ReportEntry → ℕ) (unused : ℕ) (ns : List ReportEntry) (n : ReportEntry) (place : ℕ) → place ≡ length ns → place < 64 → set (places unused (map f ns)) place (f n) ≡ places unused (map f (ns ++ n ∷ []))
 places_push f unused ns n place is room =
     let long = length-map ns f in
     let pushed = front_push 64 unused (f n) (map f ns) 64 (omega arith) (omega arith) in
@@ -22,7 +22,7 @@ places_push f unused ns n place is room =
     ap (λ (k : ℕ). set (places unused (map f ns)) k (f n)) at ∙ (pushed ∙ ap (places unused) (sym (map_push f ns n)))
 
 -- one more recalled
-pub recalled_push : (r : Report) (recalls : List Named) (n : Named) → r.recalled < 64 → r ≡ filled recalls [] → record { recalled = r.recalled + 1; woken = r.woken; dispatches = set r.dispatches r.recalled n.dispatch; sections = set r.sections r.recalled n.section } ≡ filled (recalls ++ n ∷ []) []
+pub recalled_push : (r : Report) (recalls : List ReportEntry) (n : ReportEntry) → r.recalled < 64 → r ≡ report_of recalls [] → record { recalled = r.recalled + 1; woken = r.woken; dispatches = set r.dispatches r.recalled n.dispatch; sections = set r.sections r.recalled n.section } ≡ report_of (recalls ++ n ∷ []) []
 recalled_push r recalls n room is =
     let none = append-nil recalls in
     let none_more = append-nil (recalls ++ n ∷ []) in
@@ -33,7 +33,7 @@ recalled_push r recalls n room is =
     cc
 
 -- one more woken
-pub woken_push : (r : Report) (recalls wakes : List Named) (n : Named) → r.recalled + r.woken < 64 → r ≡ filled recalls wakes → record { recalled = r.recalled; woken = r.woken + 1; dispatches = set r.dispatches (r.recalled + r.woken) n.dispatch; sections = set r.sections (r.recalled + r.woken) n.section } ≡ filled recalls (wakes ++ n ∷ [])
+pub woken_push : (r : Report) (recalls wakes : List ReportEntry) (n : ReportEntry) → r.recalled + r.woken < 64 → r ≡ report_of recalls wakes → record { recalled = r.recalled; woken = r.woken + 1; dispatches = set r.dispatches (r.recalled + r.woken) n.dispatch; sections = set r.sections (r.recalled + r.woken) n.section } ≡ report_of recalls (wakes ++ n ∷ [])
 woken_push r recalls wakes n room is =
     let joined = append_assoc recalls wakes (n ∷ []) in
     let recalled_count : r.recalled ≡ length recalls = ap (λ (x : Report). x.recalled) is in

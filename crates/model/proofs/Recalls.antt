@@ -10,10 +10,10 @@ use Rattle.model.specs.Search.{any, member}
 use Rattle.model.specs.Graph.{OnCycle, CycleStands, on_cycle}
 use Rattle.model.specs.Claims.{of, without, waits_for}
 use Rattle.model.specs.State.{State, numbers, is_open, recall}
-use Rattle.model.specs.Recalling.{Order, Recalled, summary, strictly_before, unbeaten, first, on_cycles, recall_and, recalling_at_most, recalling}
+use Rattle.model.specs.Recalling.{Order, Recalled, summary, strictly_before, unbeaten, first, on_cycles, recall_and, recall_result_within, recall_result}
 use Rattle.model.specs.Invariant.{NoCycle}
 use Rattle.model.specs.Law.{once_recalled}
-use Rattle.model.specs.declared.report.Named.{Named}
+use Rattle.model.specs.declared.report.ReportEntry.{ReportEntry}
 use Rattle.model.specs.declared.state.Claim.{Claim}
 use Rattle.model.proofs.Graphs.{on_cycle_exact, first_step}
 use Rattle.model.proofs.ClaimLists.{waits_for_ends}
@@ -30,9 +30,9 @@ abbrev pub Grounded : State → Type 0
 Grounded s = (d : ℕ) → any (of d) s.claims ≡ true → is_open s d ≡ true
 
 -- from the first state to the second the named are recalled: each was on a cycle just before, nobody on a cycle went strictly before it, and at the end no cycle stands
-pub data Recalls (u : Relations) (o : Order) : State → List Named → State → Type 0 where
+pub data Recalls (u : Relations) (o : Order) : State → List ReportEntry → State → Type 0 where
   done : {s : State} → NoCycle u s → Recalls u o s [] s
-  next : {s t : State} {n : Named} {ns : List Named} → OnCycle (waits_for u s.claims) n.dispatch → ((e : ℕ) → OnCycle (waits_for u s.claims) e → strictly_before u o s e n.dispatch ≡ false) → Recalls u o (recall n.dispatch s) ns t → Recalls u o s (n ∷ ns) t
+  next : {s t : State} {n : ReportEntry} {ns : List ReportEntry} → OnCycle (waits_for u s.claims) n.dispatch → ((e : ℕ) → OnCycle (waits_for u s.claims) e → strictly_before u o s e n.dispatch ≡ false) → Recalls u o (recall n.dispatch s) ns t → Recalls u o s (n ∷ ns) t
 
 -- who has claims once a dispatch is taken out
 pub any_of_without : (x d : ℕ) (cs : List Claim) → any (of d) (without x cs) ≡ (not (eqb d x) && any (of d) cs)
@@ -104,34 +104,34 @@ module _ (u : Relations) (o : Order) (lawful : OrderLaws o) where
       (rest x (cycle_open u s g x cycle))
 
   -- with as many turns as open dispatches, recalling ends where no cycle stands
-  recalls_at_most : (n : ℕ) (s : State) → Grounded s → length s.opened ≤ n → Recalls u o s (recalling_at_most n u o s).recalls (recalling_at_most n u o s).state
-  unfolding recalling_at_most
+  recalls_at_most : (n : ℕ) (s : State) → Grounded s → length s.opened ≤ n → Recalls u o s (recall_result_within n u o s).recalls (recall_result_within n u o s).state
+  unfolding recall_result_within
   recalls_at_most zero s g few =
       done
       (λ d c. false≢true (sym (ap (λ es. member d (numbers es)) (nil_from_length s.opened (omega arith))) ∙ cycle_open u s g d c))
   recalls_at_most (suc n) s g few =
-      turn s (recalling_at_most n u o) g
+      turn s (recall_result_within n u o) g
       (λ x here. recalls_at_most n (recall x s) (grounded_recall s x g) (omega (arith, closed_shorter x s.opened here)))
       (first u o s (on_cycles u s)) refl
 
   -- recalling recalls the first of those on cycles until no cycle stands
-  pub recalling_recalls : (s : State) → Grounded s → Recalls u o s (recalling u o s).recalls (recalling u o s).state
-  unfolding recalling
+  pub recalling_recalls : (s : State) → Grounded s → Recalls u o s (recall_result u o s).recalls (recall_result u o s).state
+  unfolding recall_result
   recalling_recalls s g = recalls_at_most (length s.opened) s g (omega arith)
 
 module _ (u : Relations) (o : Order) where
   -- at the end no cycle stands
-  pub recalls_clear : {s t : State} {ns : List Named} → Recalls u o s ns t → NoCycle u t
+  pub recalls_clear : {s t : State} {ns : List ReportEntry} → Recalls u o s ns t → NoCycle u t
   recalls_clear (done clear) = clear
   recalls_clear (next cycle best rest) = recalls_clear rest
 
   -- where a cycle stands, somebody is recalled
-  pub recalls_some : {s t : State} {ns : List Named} → Recalls u o s ns t → (d : ℕ) → OnCycle (waits_for u s.claims) d → ns ≡ [] → ⊥
+  pub recalls_some : {s t : State} {ns : List ReportEntry} → Recalls u o s ns t → (d : ℕ) → OnCycle (waits_for u s.claims) d → ns ≡ [] → ⊥
   recalls_some (done clear) d c e = clear d c
   recalls_some (next cycle best rest) d c e = cc
 
   -- where somebody is recalled, a cycle stood
-  pub recalls_cycle : {s t : State} {ns : List Named} → Recalls u o s ns t → (ns ≡ [] → ⊥) → CycleStands (waits_for u s.claims)
+  pub recalls_cycle : {s t : State} {ns : List ReportEntry} → Recalls u o s ns t → (ns ≡ [] → ⊥) → CycleStands (waits_for u s.claims)
   recalls_cycle (done clear) some = absurd (some refl)
   recalls_cycle (next {n = n} cycle best rest) some = (n.dispatch, cycle)
 
@@ -140,11 +140,11 @@ module _ (u : Relations) (o : Order) where
   Right s d = OnCycle (waits_for u s.claims) d × ((e : ℕ) → OnCycle (waits_for u s.claims) e → strictly_before u o s e d ≡ false)
 
   -- each of the named was the right one just before its recall
-  pub recalls_right : {s t : State} {ns : List Named} → Recalls u o s ns t → (earlier later : List Named) (n : Named) → ns ≡ earlier ++ n ∷ later → Right (once_recalled earlier s) n.dispatch
+  pub recalls_right : {s t : State} {ns : List ReportEntry} → Recalls u o s ns t → (earlier later : List ReportEntry) (n : ReportEntry) → ns ≡ earlier ++ n ∷ later → Right (once_recalled earlier s) n.dispatch
   recalls_right (done clear) earlier later n e = absurd (some_after earlier n later e)
   recalls_right {s} (next {n = k} cycle best rest) [] later n e =
-      let same : k ≡ n = cc in subst (λ (m : Named). Right s m.dispatch) same (cycle, best)
+      let same : k ≡ n = cc in subst (λ (m : ReportEntry). Right s m.dispatch) same (cycle, best)
   recalls_right {s} (next {n = k} {ns = ks} cycle best rest) (m ∷ ms) later n e =
       let same : k ≡ m = cc in
       let tail : ks ≡ ms ++ n ∷ later = cc in
-      subst (λ (j : Named). Right (once_recalled ms (recall j.dispatch s)) n.dispatch) same (recalls_right rest ms later n tail)
+      subst (λ (j : ReportEntry). Right (once_recalled ms (recall j.dispatch s)) n.dispatch) same (recalls_right rest ms later n tail)

@@ -4,15 +4,15 @@ use Rattle.std.proofs.lemmas.Bool.{cond_both, false≢true}
 use Rattle.std.proofs.lemmas.Bool.Decides.{nat_tests}
 use Rattle.uses.specs.Relations.{Relations}
 use Rattle.orders.specs.Laws.{OrderLaws}
-use Rattle.model.specs.Claims.{without, waits_for, dispatch_waits, covered}
-use Rattle.model.specs.State.{State, new, is_open, taken_out, entered}
-use Rattle.model.specs.Recalling.{Order, Recalled, recalling}
-use Rattle.model.specs.Calls.{is_granted, is_covered, is_waiting, is_recalled, is_refused, checks, refusal, Effect, plain, claimed, claim_answer, is_named, after_entry, accepted, effect_by, step}
+use Rattle.model.specs.Claims.{without, waits_for, dispatch_waits, is_covered}
+use Rattle.model.specs.State.{State, new, is_open, state_without, state_with_claim}
+use Rattle.model.specs.Recalling.{Order, Recalled, recall_result}
+use Rattle.model.specs.Calls.{answer_granted, answer_covered, answer_waits, answer_recalled, answer_refused, checks, refusal, Effect, plain, claimed, claim_answer, is_named, after_entry, accepted, effect_by, step}
 use Rattle.model.specs.Invariant.{claim_in_range, WellFormed, Invariant}
 use Rattle.model.specs.Law.{IsEntered, EntersClaim, once_entered}
 use Rattle.model.specs.declared.call.Call.{Call}
 use Rattle.model.specs.declared.call.Call.TheVariants as call
-use Rattle.model.specs.declared.report.Named.{Named}
+use Rattle.model.specs.declared.report.ReportEntry.{ReportEntry}
 use Rattle.model.specs.declared.state.Claim.{Claim}
 use Rattle.model.specs.declared.state.Detection.{Detection}
 use Rattle.model.specs.declared.state.Detection.TheVariants.{Continuous, Periodic}
@@ -22,7 +22,7 @@ use Rattle.model.proofs.Recalls.{Grounded, Recalls, done, next, recalling_recall
 use Rattle.model.proofs.Keeps.{new_kept, grounded, taken_out_kept, acknowledged_kept, opening_kept, entered_kept, recall_kept}
 
 -- a call is refused, or passes all its checks
-pub effect_cases : (u : Relations) (o : Order) (s : State) (c : Call) (P : Effect → Type 0) → ((n : ℕ) → refusal (checks u s c) ≡ Some n → P (plain s (is_refused n))) → (refusal (checks u s c) ≡ None → P (accepted u o s c)) → P (effect_by u o s c (refusal (checks u s c)))
+pub effect_cases : (u : Relations) (o : Order) (s : State) (c : Call) (P : Effect → Type 0) → ((n : ℕ) → refusal (checks u s c) ≡ Some n → P (plain s (answer_refused n))) → (refusal (checks u s c) ≡ None → P (accepted u o s c)) → P (effect_by u o s c (refusal (checks u s c)))
 effect_cases u o s c P refused passed = by_refusal (refusal (checks u s c)) refl
   where
     by_refusal : (v : Option ℕ) → refusal (checks u s c) ≡ v → P (effect_by u o s c v)
@@ -34,15 +34,15 @@ abbrev pub asked : ℕ → ℕ → ℕ → Claim
 asked d section mode = record { dispatch = d; section = section; mode = mode }
 
 -- a claim that is not refused is covered already, or is entered
-pub claim_cases : (u : Relations) (o : Order) (s : State) (d section mode : ℕ) (P : Effect → Type 0) → (covered u s.claims d section mode ≡ true → P (plain s is_covered)) → (covered u s.claims d section mode ≡ false → P (claimed u d (after_entry u o s.detection (entered (asked d section mode) s)))) → P (accepted u o s (call.Claim d section mode))
+pub claim_cases : (u : Relations) (o : Order) (s : State) (d section mode : ℕ) (P : Effect → Type 0) → (is_covered u s.claims d section mode ≡ true → P (plain s answer_covered)) → (is_covered u s.claims d section mode ≡ false → P (claimed u d (after_entry u o s.detection (state_with_claim (asked d section mode) s)))) → P (accepted u o s (call.Claim d section mode))
 claim_cases u o s d section mode =
-    cond_both (covered u s.claims d section mode) (plain s is_covered) (claimed u d (after_entry u o s.detection (entered (asked d section mode) s)))
+    cond_both (is_covered u s.claims d section mode) (plain s answer_covered) (claimed u d (after_entry u o s.detection (state_with_claim (asked d section mode) s)))
 
 -- what a claim that is not refused has passed
 pub record PassedClaim (u : Relations) (s : State) (d section mode : ℕ) : Type 0 where
   pub right : claim_in_range u s (asked d section mode) ≡ true
   pub runs : dispatch_waits u s.claims d ≡ false
-  pub room : covered u s.claims d section mode ≡ false → length s.claims < 512
+  pub room : is_covered u s.claims d section mode ≡ false → length s.claims < 512
 
 pub passed_claim : (u : Relations) (s : State) (d section mode : ℕ) → refusal (checks u s (call.Claim d section mode)) ≡ None → PassedClaim u s d section mode
 passed_claim u s d section mode h = record {
@@ -58,17 +58,17 @@ passed_opening u s d weight h = (grind (arith, nat_tests), grind (arith, nat_tes
 -- the answer to a claim that was entered says so
 pub answers_entered : (u : Relations) (d : ℕ) (r : Recalled) → IsEntered (claim_answer u d r)
 answers_entered u d r =
-    cond_both (is_named d r.recalls) is_recalled (cond (dispatch_waits u r.state.claims d) is_waiting is_granted) IsEntered (λ _. tt)
-    (λ _. cond_both (dispatch_waits u r.state.claims d) is_waiting is_granted IsEntered (λ _. tt) (λ _. tt))
+    cond_both (is_named d r.recalls) answer_recalled (cond (dispatch_waits u r.state.claims d) answer_waits answer_granted) IsEntered (λ _. tt)
+    (λ _. cond_both (dispatch_waits u r.state.claims d) answer_waits answer_granted IsEntered (λ _. tt) (λ _. tt))
 
 -- recalling within a call keeps the state well formed
-pub recalls_kept : (u : Relations) (o : Order) {s t : State} {ns : List Named} → Recalls u o s ns t → WellFormed u s → WellFormed u t
+pub recalls_kept : (u : Relations) (o : Order) {s t : State} {ns : List ReportEntry} → Recalls u o s ns t → WellFormed u s → WellFormed u t
 recalls_kept u o (done clear) w = w
 recalls_kept u o {s} (next {n = n} cycle best rest) w =
     recalls_kept u o rest (recall_kept u s w n.dispatch (cycle_open u s (grounded u s w) n.dispatch cycle))
 
 -- recalling within a call keeps the detection
-pub recalls_detection : (u : Relations) (o : Order) {s t : State} {ns : List Named} → Recalls u o s ns t → t.detection ≡ s.detection
+pub recalls_detection : (u : Relations) (o : Order) {s t : State} {ns : List ReportEntry} → Recalls u o s ns t → t.detection ≡ s.detection
 recalls_detection u o (done clear) = refl
 recalls_detection u o (next cycle best rest) = recalls_detection u o rest
 
@@ -82,7 +82,7 @@ refused_sweep : (u : Relations) (s : State) (c : Call) (n : ℕ) → refusal (ch
 refused_sweep u s c n h e = let none : ◌≡◌ {A = Option ℕ} None (Some n) = subst (λ (x : Call). refusal (checks u s x) ≡ Some n) e h in cc
 
 -- a refused call enters no claim
-refused_enters : (c : Call) (n : ℕ) → EntersClaim c (is_refused n) → ⊥
+refused_enters : (c : Call) (n : ℕ) → EntersClaim c (answer_refused n) → ⊥
 refused_enters (call.Open d weight) n e = e
 refused_enters (call.Claim d section mode) n e = e
 refused_enters (call.Close d) n e = e
@@ -92,14 +92,14 @@ refused_enters call.Sweep n e = e
 
 module _ (u : Relations) (o : Order) (lawful : OrderLaws o) (s : State) (w : WellFormed u s) where
   -- the state with the claim entered is well formed
-  pub entry_kept : (d section mode : ℕ) → PassedClaim u s d section mode → covered u s.claims d section mode ≡ false → WellFormed u (entered (asked d section mode) s)
+  pub entry_kept : (d section mode : ℕ) → PassedClaim u s d section mode → is_covered u s.claims d section mode ≡ false → WellFormed u (state_with_claim (asked d section mode) s)
   entry_kept d section mode passed new = entered_kept u s w (asked d section mode) passed.right passed.runs (passed.room new)
 
   -- a claim that is entered looks for cycles in a continuous book
-  looked_after_entry : (d section mode : ℕ) → WellFormed u (entered (asked d section mode) s) → (detection : Detection) → s.detection ≡ detection → Looked u o s (call.Claim d section mode) (claimed u d (after_entry u o detection (entered (asked d section mode) s)))
+  looked_after_entry : (d section mode : ℕ) → WellFormed u (state_with_claim (asked d section mode) s) → (detection : Detection) → s.detection ≡ detection → Looked u o s (call.Claim d section mode) (claimed u d (after_entry u o detection (state_with_claim (asked d section mode) s)))
   looked_after_entry d section mode kept Continuous is =
-      let t = entered (asked d section mode) s in
-      looks (grounded u t kept) (recalling_recalls u o lawful t (grounded u t kept)) (inr (is, answers_entered u d (recalling u o t)))
+      let t = state_with_claim (asked d section mode) s in
+      looks (grounded u t kept) (recalling_recalls u o lawful t (grounded u t kept)) (inr (is, answers_entered u d (recall_result u o t)))
   looked_after_entry d section mode kept Periodic is = looks_not refl (λ e. cc) (λ k e. cc)
 
   looked_accepted : (c : Call) → refusal (checks u s c) ≡ None → Looked u o s c (accepted u o s c)
@@ -124,7 +124,7 @@ module _ (u : Relations) (o : Order) (lawful : OrderLaws o) (s : State) (w : Wel
   accepted_detection (call.Open d weight) h = refl
   accepted_detection (call.Claim d section mode) h =
       claim_cases u o s d section mode (λ e. e.state.detection ≡ s.detection) (λ _. refl)
-      (λ new. entry_detection (entered (asked d section mode) s) (entry_kept d section mode (passed_claim u s d section mode h) new) s.detection)
+      (λ new. entry_detection (state_with_claim (asked d section mode) s) (entry_kept d section mode (passed_claim u s d section mode h) new) s.detection)
   accepted_detection (call.Close d) h = refl
   accepted_detection (call.Withdraw d) h = refl
   accepted_detection (call.Acknowledge d) h = refl
@@ -140,7 +140,7 @@ module _ (u : Relations) (o : Order) (lawful : OrderLaws o) (s : State) (i : Inv
   w = i.well_formed
 
   -- after recalling, the state is well formed and no cycle stands
-  recalling_invariant : (t : State) → WellFormed u t → Invariant u (recalling u o t).state
+  recalling_invariant : (t : State) → WellFormed u t → Invariant u (recall_result u o t).state
   recalling_invariant t kept =
       let rs = recalling_recalls u o lawful t (grounded u t kept) in
       record { well_formed = recalls_kept u o rs kept; no_cycle = λ _. recalls_clear u o rs }
@@ -150,7 +150,7 @@ module _ (u : Relations) (o : Order) (lawful : OrderLaws o) (s : State) (i : Inv
   entry_invariant t kept Periodic is = record { well_formed = kept; no_cycle = λ e. cc }
 
   -- taking out leaves no cycle where none stood
-  taken_out_invariant : (d : ℕ) → Invariant u (taken_out d s)
+  taken_out_invariant : (d : ℕ) → Invariant u (state_without d s)
   taken_out_invariant d = record {
     well_formed = taken_out_kept u s w d;
     no_cycle =
@@ -164,7 +164,7 @@ module _ (u : Relations) (o : Order) (lawful : OrderLaws o) (s : State) (i : Inv
       record { well_formed = opening_kept u s w d weight passed.0 passed.1 passed.2 passed.3; no_cycle = i.no_cycle }
   accepted_invariant (call.Claim d section mode) h =
       claim_cases u o s d section mode (λ e. Invariant u e.state) (λ _. i)
-      (λ new. entry_invariant (entered (asked d section mode) s) (entry_kept u o lawful s w d section mode (passed_claim u s d section mode h) new) s.detection refl)
+      (λ new. entry_invariant (state_with_claim (asked d section mode) s) (entry_kept u o lawful s w d section mode (passed_claim u s d section mode h) new) s.detection refl)
   accepted_invariant (call.Close d) h = taken_out_invariant d
   accepted_invariant (call.Withdraw d) h = taken_out_invariant d
   accepted_invariant (call.Acknowledge d) h = record { well_formed = acknowledged_kept u s w d; no_cycle = i.no_cycle }

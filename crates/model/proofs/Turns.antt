@@ -10,7 +10,7 @@ use Rattle.uses.specs.Relations.{Relations}
 use Rattle.orders.specs.Laws.{OrderLaws}
 use Rattle.model.specs.Search.{member, last}
 use Rattle.model.specs.State.{State, numbers, is_open, recall}
-use Rattle.model.specs.Recalling.{Order, Recalled, named, nobody, recall_and, first, unbeaten, summary, on_cycles, recalling_at_most, recalling}
+use Rattle.model.specs.Recalling.{Order, Recalled, entry_of, nobody, recall_and, first, unbeaten, summary, on_cycles, recall_result_within, recall_result}
 use Rattle.model.proofs.Numbers.{closed_shorter, all_pass_wider, all_pass_member}
 use Rattle.model.proofs.Recalls.{Grounded, grounded_recall, in_cycles, cycle_open, no_later, first_some, first_none}
 
@@ -31,35 +31,35 @@ module _ (u : Relations) (o : Order) (lawful : OrderLaws o) where
       absurd (false≢true (sym (ap (λ es. member d (numbers es)) (nil_from_length s.opened (omega arith))) ∙ victim_open s g d e))
 
   -- with at least as many turns as open dispatches, recalling is the same
-  enough_turns : (n m : ℕ) (s : State) → Grounded s → length s.opened ≤ n → length s.opened ≤ m → recalling_at_most n u o s ≡ recalling_at_most m u o s
-  unfolding recalling_at_most
+  enough_turns : (n m : ℕ) (s : State) → Grounded s → length s.opened ≤ n → length s.opened ≤ m → recall_result_within n u o s ≡ recall_result_within m u o s
+  unfolding recall_result_within
   enough_turns zero zero s g few few' = refl
-  enough_turns zero (suc m) s g few few' = sym (nobody_open s (recalling_at_most m u o) g few (first u o s (on_cycles u s)) refl)
-  enough_turns (suc n) zero s g few few' = nobody_open s (recalling_at_most n u o) g few' (first u o s (on_cycles u s)) refl
+  enough_turns zero (suc m) s g few few' = sym (nobody_open s (recall_result_within m u o) g few (first u o s (on_cycles u s)) refl)
+  enough_turns (suc n) zero s g few few' = nobody_open s (recall_result_within n u o) g few' (first u o s (on_cycles u s)) refl
   enough_turns (suc n) (suc m) s g few few' =
-      same_turn s (recalling_at_most n u o) (recalling_at_most m u o) g
+      same_turn s (recall_result_within n u o) (recall_result_within m u o) g
       (λ d here. let shorter = closed_shorter d s.opened here in enough_turns n m (recall d s) (grounded_recall s d g) (omega arith) (omega arith))
       (first u o s (on_cycles u s)) refl
 
   -- recalling is any number of turns that suffices
-  pub recalling_turns : (n : ℕ) (s : State) → Grounded s → length s.opened ≤ n → recalling u o s ≡ recalling_at_most n u o s
-  unfolding recalling
+  pub recalling_turns : (n : ℕ) (s : State) → Grounded s → length s.opened ≤ n → recall_result u o s ≡ recall_result_within n u o s
+  unfolding recall_result
   recalling_turns n s g few = enough_turns (length s.opened) n s g (omega arith) few
 
 module _ (u : Relations) (o : Order) (n : ℕ) (s : State) where
   -- a turn without a victim
-  pub turn_none : first u o s (on_cycles u s) ≡ None → recalling_at_most (suc n) u o s ≡ nobody s
-  unfolding recalling_at_most
-  turn_none e = ap (recall_and u (recalling_at_most n u o) s) e
+  pub turn_none : first u o s (on_cycles u s) ≡ None → recall_result_within (suc n) u o s ≡ nobody s
+  unfolding recall_result_within
+  turn_none e = ap (recall_and u (recall_result_within n u o) s) e
 
   -- a turn with a victim
-  pub turn_some : (d : ℕ) → first u o s (on_cycles u s) ≡ Some d → recalling_at_most (suc n) u o s ≡ record { recalls = named u s d ∷ (recalling_at_most n u o (recall d s)).recalls; state = (recalling_at_most n u o (recall d s)).state }
-  unfolding recalling_at_most
-  turn_some d e = ap (recall_and u (recalling_at_most n u o) s) e
+  pub turn_some : (d : ℕ) → first u o s (on_cycles u s) ≡ Some d → recall_result_within (suc n) u o s ≡ record { recalls = entry_of u s d ∷ (recall_result_within n u o (recall d s)).recalls; state = (recall_result_within n u o (recall d s)).state }
+  unfolding recall_result_within
+  turn_some d e = ap (recall_and u (recall_result_within n u o) s) e
 
 -- no turn at all
-pub turn_last : (u : Relations) (o : Order) (s : State) → recalling_at_most 0 u o s ≡ nobody s
-unfolding recalling_at_most
+pub turn_last : (u : Relations) (o : Order) (s : State) → recall_result_within 0 u o s ≡ nobody s
+unfolding recall_result_within
 turn_last u o s = refl
 
 -- the better of one more and the first so far

@@ -2,24 +2,24 @@
 use Rattle.std.specs.Prelude.{ℕ, Bool, if◌then◌else◌, not, ◌&&◌, List, [], ◌∷◌, ◌++◌, map, length, take, replicate, Some, None, filter, Option, ◌==◌, nat_eq, nat_le, nat_lt}
 use Rattle.uses.specs.Relations.{Relations}
 use Rattle.model.specs.Search.{any}
-use Rattle.model.specs.Claims.{dispatch_waits, covered}
-use Rattle.model.specs.State.{State, numbers, is_open, is_free, taken_out, entered}
-use Rattle.model.specs.Recalling.{Order, named, Recalled, nobody, recalling}
+use Rattle.model.specs.Claims.{dispatch_waits, is_covered}
+use Rattle.model.specs.State.{State, numbers, is_open, is_free, state_without, state_with_claim}
+use Rattle.model.specs.Recalling.{Order, entry_of, Recalled, nobody, recall_result}
 use Rattle.model.specs.declared.call.Call.{Call}
 use Rattle.model.specs.declared.call.Call.TheVariants as call
-use Rattle.model.specs.declared.report.Named.{Named}
+use Rattle.model.specs.declared.report.ReportEntry.{ReportEntry}
 use Rattle.model.specs.declared.report.Report.{Report}
 use Rattle.model.specs.declared.state.Detection.{Detection}
 use Rattle.model.specs.declared.state.Detection.TheVariants.{Continuous, Periodic}
 
 -- what a call answers; a refusal has its number
-pub data Answer : Type 0 where
-  is_ok : Answer
-  is_granted : Answer
-  is_covered : Answer
-  is_waiting : Answer
-  is_recalled : Answer
-  is_refused : ℕ → Answer
+pub data ModelAnswer : Type 0 where
+  answer_ok : ModelAnswer
+  answer_granted : ModelAnswer
+  answer_covered : ModelAnswer
+  answer_waits : ModelAnswer
+  answer_recalled : ModelAnswer
+  answer_refused : ℕ → ModelAnswer
 
 -- a check: whether it applies, and the number of its refusal
 abbrev pub Check : Type 0
@@ -59,7 +59,7 @@ waiting_already u s d = (dispatch_waits u s.claims d, 8)
 
 -- 9: 512 claims stand and the new one is not covered
 abbrev pub no_room : Relations → State → ℕ → ℕ → ℕ → Check
-no_room u s d section mode = (nat_le 512 (length s.claims) && not (covered u s.claims d section mode), 9)
+no_room u s d section mode = (nat_le 512 (length s.claims) && not (is_covered u s.claims d section mode), 9)
 
 -- 10: the dispatch is not recalled
 abbrev pub not_recalled : State → ℕ → Check
@@ -84,16 +84,16 @@ refusal (c ∷ cs) = if c.0 then Some c.1 else refusal cs
 -- what a call does: its answer, who is recalled, in order of recall, and the state left
 pub record Effect : Type 0 where
   pub state : State
-  pub answer : Answer
-  pub recalls : List Named
+  pub answer : ModelAnswer
+  pub recalls : List ReportEntry
 
 -- a state and an answer, and nobody is recalled
-abbrev pub plain : State → Answer → Effect
+abbrev pub plain : State → ModelAnswer → Effect
 plain s a = record { state = s; answer = a; recalls = [] }
 
 -- the dispatch joins the end of the open list
-abbrev pub opening : ℕ → ℕ → State → State
-opening d weight s = record {
+abbrev pub with_open : ℕ → ℕ → State → State
+with_open d weight s = record {
   opened = s.opened ++ record { dispatch = d; weight = weight } ∷ [];
   recalled = s.recalled;
   claims = s.claims;
@@ -101,22 +101,22 @@ opening d weight s = record {
 }
 
 -- the dispatch leaves the recalled set
-abbrev pub acknowledged : ℕ → State → State
-acknowledged d s = record { opened = s.opened; recalled = λ e. not (e == d) && s.recalled e; claims = s.claims; detection = s.detection }
+abbrev pub without_recalled : ℕ → State → State
+without_recalled d s = record { opened = s.opened; recalled = λ e. not (e == d) && s.recalled e; claims = s.claims; detection = s.detection }
 
 -- the recalling that follows the entry of a claim: in a continuous book, and not in a periodic one
 abbrev pub after_entry : Relations → Order → Detection → State → Recalled
-after_entry u o Continuous s = recalling u o s
+after_entry u o Continuous s = recall_result u o s
 after_entry u o Periodic s = nobody s
 
 -- the dispatch is among the named
-abbrev pub is_named : ℕ → List Named → Bool
+abbrev pub is_named : ℕ → List ReportEntry → Bool
 is_named d ns = any (λ n. nat_eq n.dispatch d) ns
 
 -- what is answered to a claimant: recalled if it was recalled, else waits if it waits, else granted
-abbrev pub claim_answer : Relations → ℕ → Recalled → Answer
+abbrev pub claim_answer : Relations → ℕ → Recalled → ModelAnswer
 claim_answer u d r =
-    if is_named d r.recalls then is_recalled else if dispatch_waits u r.state.claims d then is_waiting else is_granted
+    if is_named d r.recalls then answer_recalled else if dispatch_waits u r.state.claims d then answer_waits else answer_granted
 
 -- a claim that was entered has this effect
 abbrev pub claimed : Relations → ℕ → Recalled → Effect
@@ -124,36 +124,36 @@ claimed u d r = record { state = r.state; answer = claim_answer u d r; recalls =
 
 -- recalling, and ok
 abbrev pub swept : Recalled → Effect
-swept r = record { state = r.state; answer = is_ok; recalls = r.recalls }
+swept r = record { state = r.state; answer = answer_ok; recalls = r.recalls }
 
 -- what a call does that is not refused
 abbrev pub accepted : Relations → Order → State → Call → Effect
-accepted u o s (call.Open d weight) = plain (opening d weight s) is_ok
+accepted u o s (call.Open d weight) = plain (with_open d weight s) answer_ok
 accepted u o s (call.Claim d section mode) =
-    if covered u s.claims d section mode then plain s is_covered
-    else claimed u d (after_entry u o s.detection (entered (record { dispatch = d; section = section; mode = mode }) s))
-accepted u o s (call.Close d) = plain (taken_out d s) is_ok
-accepted u o s (call.Withdraw d) = plain (taken_out d s) is_ok
-accepted u o s (call.Acknowledge d) = plain (acknowledged d s) is_ok
-accepted u o s call.Sweep = swept (recalling u o s)
+    if is_covered u s.claims d section mode then plain s answer_covered
+    else claimed u d (after_entry u o s.detection (state_with_claim (record { dispatch = d; section = section; mode = mode }) s))
+accepted u o s (call.Close d) = plain (state_without d s) answer_ok
+accepted u o s (call.Withdraw d) = plain (state_without d s) answer_ok
+accepted u o s (call.Acknowledge d) = plain (without_recalled d s) answer_ok
+accepted u o s call.Sweep = swept (recall_result u o s)
 
 -- what a call does: a refused one changes nothing and recalls nobody
 abbrev pub effect_by : Relations → Order → State → Call → Option ℕ → Effect
 effect_by u o s c None = accepted u o s c
-effect_by u o s c (Some n) = plain s (is_refused n)
+effect_by u o s c (Some n) = plain s (answer_refused n)
 
 -- who waited in the first state and runs in the second, in order of opening, each with the section for which it waited
-abbrev pub woken : Relations → State → State → List Named
+abbrev pub woken : Relations → State → State → List ReportEntry
 woken u s t =
-    map (named u s)
+    map (entry_of u s)
     (filter (λ d. dispatch_waits u s.claims d && not (dispatch_waits u t.claims d)) (numbers t.opened))
 
 -- all that a call gives
 pub record Outcome : Type 0 where
   pub state : State
-  pub answer : Answer
-  pub recalls : List Named
-  pub wakes : List Named
+  pub answer : ModelAnswer
+  pub recalls : List ReportEntry
+  pub wakes : List ReportEntry
 
 -- an effect, with who is woken by it
 abbrev pub with_wakes : Relations → State → Effect → Outcome
@@ -168,8 +168,8 @@ abbrev pub places : ℕ → List ℕ → List ℕ
 places unused ns = take 64 (ns ++ replicate 64 unused)
 
 -- a report of the recalled and the woken
-abbrev pub filled : List Named → List Named → Report
-filled recalls wakes = record {
+abbrev pub report_of : List ReportEntry → List ReportEntry → Report
+report_of recalls wakes = record {
   recalled = length recalls;
   woken = length wakes;
   dispatches = places 255 (map (λ n. n.dispatch) (recalls ++ wakes));
@@ -178,4 +178,4 @@ filled recalls wakes = record {
 
 -- the report of a call
 abbrev pub report : Outcome → Report
-report x = filled x.recalls x.wakes
+report x = report_of x.recalls x.wakes

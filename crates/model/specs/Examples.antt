@@ -8,11 +8,11 @@ use Rattle.uses.specs.Spans.{spans}
 use Rattle.orders.specs.Orders.{newest, lightest, fewest, pair}
 use Rattle.model.specs.State.{State, new}
 use Rattle.model.specs.Recalling.{Order}
-use Rattle.model.specs.Calls.{Answer, step, filled, is_ok, is_granted, is_covered, is_waiting, is_recalled, is_refused}
+use Rattle.model.specs.Calls.{ModelAnswer, step, report_of, answer_ok, answer_granted, answer_covered, answer_waits, answer_recalled, answer_refused}
 use Rattle.model.specs.Questions.{condition_asked, waited_for, holders}
 use Rattle.model.specs.declared.call.Call.{Call}
 use Rattle.model.specs.declared.call.Call.TheVariants.{Open, Claim, Close, Withdraw, Acknowledge, Sweep}
-use Rattle.model.specs.declared.report.Named.{Named}
+use Rattle.model.specs.declared.report.ReportEntry.{ReportEntry}
 use Rattle.model.specs.declared.report.Report.{Report}
 use Rattle.model.specs.declared.state.Condition.{Condition}
 use Rattle.model.specs.declared.state.Condition.TheVariants.{Free, Running, Waiting, Recalled}
@@ -22,9 +22,9 @@ use Rattle.model.specs.declared.state.Detection.TheVariants.{Continuous, Periodi
 -- a call, and what it gives: its answer, the recalled and the woken
 pub record Line : Type 0 where
   pub made : Call
-  pub answer : Answer
-  pub recalls : List Named
-  pub wakes : List Named
+  pub answer : ModelAnswer
+  pub recalls : List ReportEntry
+  pub wakes : List ReportEntry
 
 -- an example: a run from a new book, line by line; how dispatches stand; yes or no; reports; or a relation of uses as a chart
 pub data Example : Type 0 where
@@ -61,12 +61,12 @@ after u o s [] = s
 after u o s (c ∷ cs) = after u o (step u o s c).state cs
 
 -- a call that recalls and wakes nobody
-abbrev pub quiet : Call → Answer → Line
+abbrev pub quiet : Call → ModelAnswer → Line
 quiet c a = record { made = c; answer = a; recalls = []; wakes = [] }
 
 infixl 30 ◌at◌
 -- a dispatch at a section
-abbrev pub ◌at◌ : ℕ → ℕ → Named
+abbrev pub ◌at◌ : ℕ → ℕ → ReportEntry
 d at section = record { dispatch = d; section = section }
 
 -- the code of a look
@@ -79,28 +79,28 @@ move = 1
 
 -- a sweep of a new book
 abbrev pub sweep_of_a_new_book : Example
-sweep_of_a_new_book = played Continuous two_uses newest (quiet Sweep is_ok ∷ [])
+sweep_of_a_new_book = played Continuous two_uses newest (quiet Sweep answer_ok ∷ [])
 
 -- who moves on a section may look at it
 abbrev pub covered_claim : Example
-covered_claim = played Continuous two_uses newest (quiet (Open 1 5) is_ok ∷ quiet (Claim 1 10 move) is_granted ∷ quiet (Claim 1 10 look) is_covered ∷ [])
+covered_claim = played Continuous two_uses newest (quiet (Open 1 5) answer_ok ∷ quiet (Claim 1 10 move) answer_granted ∷ quiet (Claim 1 10 look) answer_covered ∷ [])
 
 -- two stations, each with its own dock, each claims the other's
 abbrev pub two_stations : Example
 two_stations =
     played Continuous two_uses newest
-    (quiet (Open 1 5) is_ok ∷ quiet (Open 2 5) is_ok ∷ quiet (Claim 1 10 move) is_granted ∷ quiet (Claim 2 11 move) is_granted
-    ∷ quiet (Claim 1 11 move) is_waiting
-    ∷ record { made = Claim 2 10 move; answer = is_recalled; recalls = (2 at 10) ∷ []; wakes = (1 at 11) ∷ [] }
-    ∷ quiet (Acknowledge 2) is_ok ∷ [])
+    (quiet (Open 1 5) answer_ok ∷ quiet (Open 2 5) answer_ok ∷ quiet (Claim 1 10 move) answer_granted ∷ quiet (Claim 2 11 move) answer_granted
+    ∷ quiet (Claim 1 11 move) answer_waits
+    ∷ record { made = Claim 2 10 move; answer = answer_recalled; recalls = (2 at 10) ∷ []; wakes = (1 at 11) ∷ [] }
+    ∷ quiet (Acknowledge 2) answer_ok ∷ [])
 
 -- two look at one section, and both then claim to move there; and what comes then
 abbrev pub double_upgrade_and : List Line → Example
 double_upgrade_and ls =
     played Continuous two_uses newest
-    (quiet (Open 1 5) is_ok ∷ quiet (Open 2 5) is_ok ∷ quiet (Claim 1 7 look) is_granted ∷ quiet (Claim 2 7 look) is_granted
-    ∷ quiet (Claim 1 7 move) is_waiting
-    ∷ record { made = Claim 2 7 move; answer = is_recalled; recalls = (2 at 7) ∷ []; wakes = (1 at 7) ∷ [] } ∷ ls)
+    (quiet (Open 1 5) answer_ok ∷ quiet (Open 2 5) answer_ok ∷ quiet (Claim 1 7 look) answer_granted ∷ quiet (Claim 2 7 look) answer_granted
+    ∷ quiet (Claim 1 7 move) answer_waits
+    ∷ record { made = Claim 2 7 move; answer = answer_recalled; recalls = (2 at 7) ∷ []; wakes = (1 at 7) ∷ [] } ∷ ls)
 
 -- the newer one is recalled, and the other goes on
 abbrev pub double_upgrade : Example
@@ -110,68 +110,68 @@ double_upgrade = double_upgrade_and []
 abbrev pub behind_a_waiting_claim : Example
 behind_a_waiting_claim =
     played Continuous two_uses newest
-    (quiet (Open 1 5) is_ok ∷ quiet (Open 2 5) is_ok ∷ quiet (Open 3 5) is_ok ∷ quiet (Claim 1 7 look) is_granted
-    ∷ quiet (Claim 2 7 move) is_waiting ∷ quiet (Claim 3 7 look) is_waiting
-    ∷ record { made = Close 1; answer = is_ok; recalls = []; wakes = (2 at 7) ∷ [] } ∷ [])
+    (quiet (Open 1 5) answer_ok ∷ quiet (Open 2 5) answer_ok ∷ quiet (Open 3 5) answer_ok ∷ quiet (Claim 1 7 look) answer_granted
+    ∷ quiet (Claim 2 7 move) answer_waits ∷ quiet (Claim 3 7 look) answer_waits
+    ∷ record { made = Close 1; answer = answer_ok; recalls = []; wakes = (2 at 7) ∷ [] } ∷ [])
 
 -- a claim that conflicts with nothing passes one that waits
 abbrev pub beside_a_waiting_claim : Example
 beside_a_waiting_claim =
     played Continuous five_uses newest
-    (quiet (Open 1 5) is_ok ∷ quiet (Open 2 5) is_ok ∷ quiet (Open 3 5) is_ok ∷ quiet (Claim 1 0 S) is_granted ∷ quiet (Claim 2 0 IX) is_waiting
-    ∷ quiet (Claim 3 0 IS) is_granted ∷ [])
+    (quiet (Open 1 5) answer_ok ∷ quiet (Open 2 5) answer_ok ∷ quiet (Open 3 5) answer_ok ∷ quiet (Claim 1 0 S) answer_granted ∷ quiet (Claim 2 0 IX) answer_waits
+    ∷ quiet (Claim 3 0 IS) answer_granted ∷ [])
 
 -- the first calls of a cycle of three dispatches, of weights 9, 3 and 5
 abbrev pub three_and : List Line → List Line
 three_and ls =
-    quiet (Open 1 9) is_ok ∷ quiet (Open 2 3) is_ok ∷ quiet (Open 3 5) is_ok ∷ quiet (Claim 1 10 move) is_granted
-    ∷ quiet (Claim 2 11 move) is_granted ∷ quiet (Claim 3 12 move) is_granted ∷ quiet (Claim 1 11 move) is_waiting
-    ∷ quiet (Claim 2 12 move) is_waiting ∷ ls
+    quiet (Open 1 9) answer_ok ∷ quiet (Open 2 3) answer_ok ∷ quiet (Open 3 5) answer_ok ∷ quiet (Claim 1 10 move) answer_granted
+    ∷ quiet (Claim 2 11 move) answer_granted ∷ quiet (Claim 3 12 move) answer_granted ∷ quiet (Claim 1 11 move) answer_waits
+    ∷ quiet (Claim 2 12 move) answer_waits ∷ ls
 
 -- the lightest of three is recalled as the cycle closes
 abbrev pub lightest_of_three : Example
 lightest_of_three =
     played Continuous two_uses lightest
-    (three_and (record { made = Claim 3 10 move; answer = is_waiting; recalls = (2 at 12) ∷ []; wakes = (1 at 11) ∷ [] } ∷ []))
+    (three_and (record { made = Claim 3 10 move; answer = answer_waits; recalls = (2 at 12) ∷ []; wakes = (1 at 11) ∷ [] } ∷ []))
 
 -- the same in a periodic book: the cycle stands until a sweep
 abbrev pub periodic_of_three : Example
 periodic_of_three =
     played Periodic two_uses lightest
     (three_and
-    (quiet (Claim 3 10 move) is_waiting ∷ record { made = Sweep; answer = is_ok; recalls = (2 at 12) ∷ []; wakes = (1 at 11) ∷ [] } ∷ []))
+    (quiet (Claim 3 10 move) answer_waits ∷ record { made = Sweep; answer = answer_ok; recalls = (2 at 12) ∷ []; wakes = (1 at 11) ∷ [] } ∷ []))
 
 -- every blocker counts: 3 waits behind both lookers, and the cycle goes through the second
 abbrev pub second_blocker : Example
 second_blocker =
     played Continuous two_uses newest
-    (quiet (Open 1 5) is_ok ∷ quiet (Open 2 5) is_ok ∷ quiet (Open 3 5) is_ok ∷ quiet (Claim 1 7 look) is_granted ∷ quiet (Claim 2 7 look) is_granted
-    ∷ quiet (Claim 3 8 move) is_granted ∷ quiet (Claim 3 7 move) is_waiting
-    ∷ record { made = Claim 2 8 move; answer = is_granted; recalls = (3 at 7) ∷ []; wakes = [] } ∷ [])
+    (quiet (Open 1 5) answer_ok ∷ quiet (Open 2 5) answer_ok ∷ quiet (Open 3 5) answer_ok ∷ quiet (Claim 1 7 look) answer_granted ∷ quiet (Claim 2 7 look) answer_granted
+    ∷ quiet (Claim 3 8 move) answer_granted ∷ quiet (Claim 3 7 move) answer_waits
+    ∷ record { made = Claim 2 8 move; answer = answer_granted; recalls = (3 at 7) ∷ []; wakes = [] } ∷ [])
 
 -- after each recall one looks again: with 4 gone, 3 is on no cycle, and 2 is the next
 abbrev pub two_cycles : Example
 two_cycles =
     played Periodic two_uses newest
-    (quiet (Open 1 5) is_ok ∷ quiet (Open 2 5) is_ok ∷ quiet (Open 3 5) is_ok ∷ quiet (Open 4 5) is_ok ∷ quiet (Claim 1 10 move) is_granted
-    ∷ quiet (Claim 2 11 move) is_granted ∷ quiet (Claim 3 12 move) is_granted ∷ quiet (Claim 4 13 move) is_granted
-    ∷ quiet (Claim 1 11 move) is_waiting ∷ quiet (Claim 2 10 move) is_waiting ∷ quiet (Claim 3 13 move) is_waiting
-    ∷ quiet (Claim 4 12 move) is_waiting
-    ∷ record { made = Sweep; answer = is_ok; recalls = (4 at 12) ∷ (2 at 10) ∷ []; wakes = (1 at 11) ∷ (3 at 13) ∷ [] } ∷ [])
+    (quiet (Open 1 5) answer_ok ∷ quiet (Open 2 5) answer_ok ∷ quiet (Open 3 5) answer_ok ∷ quiet (Open 4 5) answer_ok ∷ quiet (Claim 1 10 move) answer_granted
+    ∷ quiet (Claim 2 11 move) answer_granted ∷ quiet (Claim 3 12 move) answer_granted ∷ quiet (Claim 4 13 move) answer_granted
+    ∷ quiet (Claim 1 11 move) answer_waits ∷ quiet (Claim 2 10 move) answer_waits ∷ quiet (Claim 3 13 move) answer_waits
+    ∷ quiet (Claim 4 12 move) answer_waits
+    ∷ record { made = Sweep; answer = answer_ok; recalls = (4 at 12) ∷ (2 at 10) ∷ []; wakes = (1 at 11) ∷ (3 at 13) ∷ [] } ∷ [])
 
 -- a wrong section is refused before an unknown use
 abbrev pub order_of_refusals : Example
-order_of_refusals = played Continuous two_uses newest (quiet (Open 1 5) is_ok ∷ quiet (Claim 1 1024 9) (is_refused 2) ∷ [])
+order_of_refusals = played Continuous two_uses newest (quiet (Open 1 5) answer_ok ∷ quiet (Claim 1 1024 9) (answer_refused 2) ∷ [])
 
 -- a weight that is too high is refused before the dispatch's state is looked at
 abbrev pub order_at_opening : Example
-order_at_opening = played Continuous two_uses newest (quiet (Open 1 5) is_ok ∷ quiet (Open 1 1001) (is_refused 4) ∷ quiet (Open 1 1000) (is_refused 6) ∷ [])
+order_at_opening = played Continuous two_uses newest (quiet (Open 1 5) answer_ok ∷ quiet (Open 1 1001) (answer_refused 4) ∷ quiet (Open 1 1000) (answer_refused 6) ∷ [])
 
 -- a recalled dispatch is refused until it is acknowledged, once, and may then be opened again
 abbrev pub recalled_and_again : Example
 recalled_and_again =
     double_upgrade_and
-    (quiet (Open 2 1001) (is_refused 4) ∷ quiet (Open 2 5) (is_refused 5) ∷ quiet (Acknowledge 2) is_ok ∷ quiet (Acknowledge 2) (is_refused 10) ∷ quiet (Open 2 5) is_ok ∷ [])
+    (quiet (Open 2 1001) (answer_refused 4) ∷ quiet (Open 2 5) (answer_refused 5) ∷ quiet (Acknowledge 2) answer_ok ∷ quiet (Acknowledge 2) (answer_refused 10) ∷ quiet (Open 2 5) answer_ok ∷ [])
 
 -- an order of another line: who holds at most one claim goes before who holds more
 abbrev pub one_or_more : Order
@@ -181,9 +181,9 @@ one_or_more a b = nat_le a.held 1 || nat_lt 1 b.held
 abbrev pub held_claims_only : Example
 held_claims_only =
     played Continuous two_uses one_or_more
-    (quiet (Open 1 5) is_ok ∷ quiet (Open 2 5) is_ok ∷ quiet (Claim 1 10 move) is_granted ∷ quiet (Claim 2 11 move) is_granted
-    ∷ quiet (Claim 2 12 move) is_granted ∷ quiet (Claim 1 11 move) is_waiting
-    ∷ record { made = Claim 2 10 move; answer = is_granted; recalls = (1 at 11) ∷ []; wakes = [] } ∷ [])
+    (quiet (Open 1 5) answer_ok ∷ quiet (Open 2 5) answer_ok ∷ quiet (Claim 1 10 move) answer_granted ∷ quiet (Claim 2 11 move) answer_granted
+    ∷ quiet (Claim 2 12 move) answer_granted ∷ quiet (Claim 1 11 move) answer_waits
+    ∷ record { made = Claim 2 10 move; answer = answer_granted; recalls = (1 at 11) ∷ []; wakes = [] } ∷ [])
 
 -- up 0 to 5 and down 4 to 9 conflict, up 0 to 5 and down 5 to 9 do not, up 5 to 5 is unknown
 abbrev pub span_questions : Example
@@ -192,38 +192,38 @@ span_questions = asked ((spans.conflict 65541 132105, true) ∷ (spans.conflict 
 -- the first calls of a cycle of three dispatches, of weights 9, 3 and 3, which hold one, two and three claims
 abbrev pub three_holding_and : List Line → List Line
 three_holding_and ls =
-    quiet (Open 1 9) is_ok ∷ quiet (Open 2 3) is_ok ∷ quiet (Open 3 3) is_ok ∷ quiet (Claim 1 10 move) is_granted
-    ∷ quiet (Claim 2 11 move) is_granted ∷ quiet (Claim 2 20 move) is_granted ∷ quiet (Claim 3 12 move) is_granted
-    ∷ quiet (Claim 3 21 move) is_granted ∷ quiet (Claim 3 22 move) is_granted ∷ quiet (Claim 1 11 move) is_waiting
-    ∷ quiet (Claim 2 12 move) is_waiting ∷ ls
+    quiet (Open 1 9) answer_ok ∷ quiet (Open 2 3) answer_ok ∷ quiet (Open 3 3) answer_ok ∷ quiet (Claim 1 10 move) answer_granted
+    ∷ quiet (Claim 2 11 move) answer_granted ∷ quiet (Claim 2 20 move) answer_granted ∷ quiet (Claim 3 12 move) answer_granted
+    ∷ quiet (Claim 3 21 move) answer_granted ∷ quiet (Claim 3 22 move) answer_granted ∷ quiet (Claim 1 11 move) answer_waits
+    ∷ quiet (Claim 2 12 move) answer_waits ∷ ls
 
 -- who holds the fewest claims is recalled
 abbrev pub fewest_of_three : Example
 fewest_of_three =
     played Continuous two_uses fewest
-    (three_holding_and (record { made = Claim 3 10 move; answer = is_granted; recalls = (1 at 11) ∷ []; wakes = [] } ∷ []))
+    (three_holding_and (record { made = Claim 3 10 move; answer = answer_granted; recalls = (1 at 11) ∷ []; wakes = [] } ∷ []))
 
 -- of a pair of orders the second counts where the first ties: of the two lightest, who holds fewer is recalled
 abbrev pub fewest_of_the_lightest : Example
 fewest_of_the_lightest =
     played Continuous two_uses (pair lightest fewest)
-    (three_holding_and (record { made = Claim 3 10 move; answer = is_waiting; recalls = (2 at 12) ∷ []; wakes = (1 at 11) ∷ [] } ∷ []))
+    (three_holding_and (record { made = Claim 3 10 move; answer = answer_waits; recalls = (2 at 12) ∷ []; wakes = (1 at 11) ∷ [] } ∷ []))
 
 -- who waits can neither claim nor close, but may be withdrawn, which frees the number at once
 abbrev pub withdrawn : Example
 withdrawn =
     played Continuous two_uses newest
-    (quiet (Open 1 5) is_ok ∷ quiet (Open 2 5) is_ok ∷ quiet (Claim 1 7 move) is_granted ∷ quiet (Claim 2 7 move) is_waiting
-    ∷ quiet (Claim 2 8 look) (is_refused 8) ∷ quiet (Close 2) (is_refused 8) ∷ quiet (Withdraw 2) is_ok ∷ quiet (Withdraw 2) (is_refused 7)
-    ∷ quiet (Open 2 5) is_ok ∷ quiet (Claim 2 7 look) is_waiting
-    ∷ record { made = Withdraw 1; answer = is_ok; recalls = []; wakes = (2 at 7) ∷ [] } ∷ quiet (Close 2) is_ok ∷ [])
+    (quiet (Open 1 5) answer_ok ∷ quiet (Open 2 5) answer_ok ∷ quiet (Claim 1 7 move) answer_granted ∷ quiet (Claim 2 7 move) answer_waits
+    ∷ quiet (Claim 2 8 look) (answer_refused 8) ∷ quiet (Close 2) (answer_refused 8) ∷ quiet (Withdraw 2) answer_ok ∷ quiet (Withdraw 2) (answer_refused 7)
+    ∷ quiet (Open 2 5) answer_ok ∷ quiet (Claim 2 7 look) answer_waits
+    ∷ record { made = Withdraw 1; answer = answer_ok; recalls = []; wakes = (2 at 7) ∷ [] } ∷ quiet (Close 2) answer_ok ∷ [])
 
 -- the numbers that are too high, and those that are not
 abbrev pub limits : Example
 limits =
     played Continuous two_uses newest
-    (quiet (Open 64 1001) (is_refused 1) ∷ quiet (Open 63 1001) (is_refused 4) ∷ quiet (Open 63 1000) is_ok ∷ quiet (Claim 63 1024 move) (is_refused 2)
-    ∷ quiet (Claim 63 1023 2) (is_refused 3) ∷ quiet (Claim 63 1023 move) is_granted ∷ quiet (Close 62) (is_refused 7) ∷ [])
+    (quiet (Open 64 1001) (answer_refused 1) ∷ quiet (Open 63 1001) (answer_refused 4) ∷ quiet (Open 63 1000) answer_ok ∷ quiet (Claim 63 1024 move) (answer_refused 2)
+    ∷ quiet (Claim 63 1023 2) (answer_refused 3) ∷ quiet (Claim 63 1023 move) answer_granted ∷ quiet (Close 62) (answer_refused 7) ∷ [])
 
 -- 1 looks, 2 wants to move there and waits, 3 looks behind it and waits; 4 was recalled after 5 and it claimed each other's sections
 abbrev pub queue : State
@@ -254,7 +254,7 @@ abbrev pub full_report : Example
 full_report =
     reported
     ((
-      filled ((4 at 12) ∷ (2 at 10) ∷ []) ((1 at 11) ∷ []),
+      report_of ((4 at 12) ∷ (2 at 10) ∷ []) ((1 at 11) ∷ []),
       record { recalled = 2; woken = 1; dispatches = 4 ∷ 2 ∷ 1 ∷ replicate 61 255; sections = 12 ∷ 10 ∷ 11 ∷ replicate 61 65535 },
     ) ∷ [])
 

@@ -7,11 +7,11 @@ use Rattle.model.specs.Graph.{OnCycle}
 use Rattle.model.specs.Claims.{waits_for, waiting_claims}
 use Rattle.model.specs.State.{State, numbers, is_open}
 use Rattle.model.specs.declared.state.Claim.{Claim}
-use Rattle.model.specs.declared.state.Opened.{Opened}
+use Rattle.model.specs.declared.state.OpenEntry.{OpenEntry}
 use Rattle.model.specs.declared.state.Detection.TheVariants.{Continuous}
 
 -- an open entry in range
-abbrev pub entry_in_range : Opened → Bool
+abbrev pub entry_in_range : OpenEntry → Bool
 entry_in_range e = nat_lt e.dispatch 64 && nat_le e.weight 1000
 
 -- a claim in range: its dispatch is open, its section is at most 1023, its use is known

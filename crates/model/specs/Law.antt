@@ -3,13 +3,13 @@ use Rattle.std.specs.Prelude.{◌≡◌, ℕ, ◌≤◌, true, false, ◌⊎◌,
 use Rattle.uses.specs.Relations.{Relations}
 use Rattle.model.specs.Graph.{OnCycle, CycleStands, Chain, end_of}
 use Rattle.model.specs.Claims.{dispatch_waits, waits_for}
-use Rattle.model.specs.State.{State, is_open, recall, entered}
+use Rattle.model.specs.State.{State, is_open, recall, state_with_claim}
 use Rattle.model.specs.Recalling.{Order, strictly_before}
-use Rattle.model.specs.Calls.{Answer, is_granted, is_covered, is_waiting, is_recalled, is_ok, is_refused}
+use Rattle.model.specs.Calls.{ModelAnswer, answer_granted, answer_covered, answer_waits, answer_recalled, answer_ok, answer_refused}
 use Rattle.model.specs.Runs.{Run, at, outcome, EachMoment, EachCall, Granted}
 use Rattle.model.specs.declared.call.Call.{Call}
 use Rattle.model.specs.declared.call.Call.TheVariants as call
-use Rattle.model.specs.declared.report.Named.{Named}
+use Rattle.model.specs.declared.report.ReportEntry.{ReportEntry}
 use Rattle.model.specs.declared.state.Detection.TheVariants.{Continuous}
 
 -- two different open dispatches that were both granted uses of one section, since opening, were granted uses that do not conflict
@@ -35,16 +35,16 @@ abbrev pub RecallsSomebody : Relations → Order → Run → Call → Type 0
 RecallsSomebody u o r c = (outcome u o r c).recalls ≡ [] → ⊥
 
 -- the answer to a claim that is entered: neither covered nor a refusal
-abbrev pub IsEntered : Answer → Type 0
-IsEntered is_ok = ⊥
-IsEntered is_granted = Unit {0}
-IsEntered is_covered = ⊥
-IsEntered is_waiting = Unit {0}
-IsEntered is_recalled = Unit {0}
-IsEntered (is_refused n) = ⊥
+abbrev pub IsEntered : ModelAnswer → Type 0
+IsEntered answer_ok = ⊥
+IsEntered answer_granted = Unit {0}
+IsEntered answer_covered = ⊥
+IsEntered answer_waits = Unit {0}
+IsEntered answer_recalled = Unit {0}
+IsEntered (answer_refused n) = ⊥
 
 -- the call is a claim, and it is entered
-abbrev pub EntersClaim : Call → Answer → Type 0
+abbrev pub EntersClaim : Call → ModelAnswer → Type 0
 EntersClaim (call.Open d weight) a = ⊥
 EntersClaim (call.Claim d section mode) a = IsEntered a
 EntersClaim (call.Close d) a = ⊥
@@ -55,19 +55,19 @@ EntersClaim call.Sweep a = ⊥
 -- the state once the call's claim, if it has one, is entered
 abbrev pub once_entered : Call → State → State
 once_entered (call.Open d weight) s = s
-once_entered (call.Claim d section mode) s = entered (record { dispatch = d; section = section; mode = mode }) s
+once_entered (call.Claim d section mode) s = state_with_claim (record { dispatch = d; section = section; mode = mode }) s
 once_entered (call.Close d) s = s
 once_entered (call.Withdraw d) s = s
 once_entered (call.Acknowledge d) s = s
 once_entered call.Sweep s = s
 
 -- the state once the named are recalled, one after another
-abbrev pub once_recalled : List Named → State → State
+abbrev pub once_recalled : List ReportEntry → State → State
 once_recalled [] s = s
 once_recalled (n ∷ ns) s = once_recalled ns (recall n.dispatch s)
 
 -- the state just before a recall: the call's claim, if it has one, is entered, and the call's earlier recalls are done
-abbrev pub just_before : Relations → Order → Run → Call → List Named → State
+abbrev pub just_before : Relations → Order → Run → Call → List ReportEntry → State
 just_before u o r c earlier = once_recalled earlier (once_entered c (at u o r))
 
 -- when a call recalls somebody
@@ -82,9 +82,9 @@ pub record RecallWhen (u : Relations) (o : Order) (r : Run) (c : Call) : Type 0 
 -- whom a call recalls
 pub record RecallWhom (u : Relations) (o : Order) (r : Run) (c : Call) : Type 0 where
   -- just before its recall it was on a cycle
-  pub was_on_cycle : (earlier later : List Named) (n : Named) → (outcome u o r c).recalls ≡ earlier ++ n ∷ later → OnCycle (waits_for u (just_before u o r c earlier).claims) n.dispatch
+  pub was_on_cycle : (earlier later : List ReportEntry) (n : ReportEntry) → (outcome u o r c).recalls ≡ earlier ++ n ∷ later → OnCycle (waits_for u (just_before u o r c earlier).claims) n.dispatch
   -- and nobody on a cycle then went strictly before it in the recall order, by the summaries of that state
-  pub none_before : (earlier later : List Named) (n : Named) → (outcome u o r c).recalls ≡ earlier ++ n ∷ later → (e : ℕ) → OnCycle (waits_for u (just_before u o r c earlier).claims) e → strictly_before u o (just_before u o r c earlier) e n.dispatch ≡ false
+  pub none_before : (earlier later : List ReportEntry) (n : ReportEntry) → (outcome u o r c).recalls ≡ earlier ++ n ∷ later → (e : ℕ) → OnCycle (waits_for u (just_before u o r c earlier).claims) e → strictly_before u o (just_before u o r c earlier) e n.dispatch ≡ false
 
 -- the law over runs
 pub record Law (u : Relations) (o : Order) (r : Run) : Type 0 where

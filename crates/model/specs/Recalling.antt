@@ -6,28 +6,28 @@ use Rattle.uses.specs.Relations.{Relations}
 use Rattle.orders.specs.declared.order.Summary.{Summary}
 use Rattle.model.specs.Search.{last}
 use Rattle.model.specs.Graph.{on_cycle}
-use Rattle.model.specs.Claims.{waits_for, waiting_section, held}
+use Rattle.model.specs.Claims.{waits_for, waiting_section, held_count}
 use Rattle.model.specs.State.{State, numbers, recall}
-use Rattle.model.specs.declared.report.Named.{Named}
-use Rattle.model.specs.declared.state.Opened.{Opened}
+use Rattle.model.specs.declared.report.ReportEntry.{ReportEntry}
+use Rattle.model.specs.declared.state.OpenEntry.{OpenEntry}
 
 -- whether the first summary goes no later than the second
 abbrev pub Order : Type 0
 Order = Summary → Summary → Bool
 
 -- how many open dispatches were opened before the dispatch
-abbrev pub standing : List Opened → ℕ → ℕ
+abbrev pub standing : List OpenEntry → ℕ → ℕ
 standing [] d = 0
 standing (e ∷ es) d = if e.dispatch == d then 0 else suc (standing es d)
 
 -- the weight of the dispatch
-abbrev pub weight : List Opened → ℕ → ℕ
+abbrev pub weight : List OpenEntry → ℕ → ℕ
 weight [] d = 0
 weight (e ∷ es) d = if e.dispatch == d then e.weight else weight es d
 
 -- what the recall order sees of an open dispatch
 abbrev pub summary : Relations → State → ℕ → Summary
-summary u s d = record { standing = standing s.opened d; weight = weight s.opened d; held = held u s.claims d }
+summary u s d = record { standing = standing s.opened d; weight = weight s.opened d; held = held_count u s.claims d }
 
 -- the first goes strictly before the second when the second does not go no later than the first
 abbrev pub strictly_before : Relations → Order → State → ℕ → ℕ → Bool
@@ -46,12 +46,12 @@ unfoldable pub on_cycles : Relations → State → List ℕ
 on_cycles u s = filter (on_cycle (numbers s.opened) (waits_for u s.claims)) (numbers s.opened)
 
 -- the dispatch, with the section of its claim that waits, or 65535 where none waits
-abbrev pub named : Relations → State → ℕ → Named
-named u s d = record { dispatch = d; section = unwrap_or (waiting_section u s.claims d) 65535 }
+abbrev pub entry_of : Relations → State → ℕ → ReportEntry
+entry_of u s d = record { dispatch = d; section = unwrap_or (waiting_section u s.claims d) 65535 }
 
 -- who was recalled, in order of recall, and the state left
 pub record Recalled : Type 0 where
-  pub recalls : List Named
+  pub recalls : List ReportEntry
   pub state : State
 
 -- nobody is recalled
@@ -61,13 +61,13 @@ nobody s = record { recalls = []; state = s }
 -- the victim, if there is one, is recalled, and one looks again
 abbrev pub recall_and : Relations → (State → Recalled) → State → Option ℕ → Recalled
 recall_and u again s None = nobody s
-recall_and u again s (Some d) = record { recalls = named u s d ∷ (again (recall d s)).recalls; state = (again (recall d s)).state }
+recall_and u again s (Some d) = record { recalls = entry_of u s d ∷ (again (recall d s)).recalls; state = (again (recall d s)).state }
 
 -- at most n times, while a dispatch is on a cycle: the first of all that are on cycles is recalled
-unfoldable pub recalling_at_most : ℕ → Relations → Order → State → Recalled
-recalling_at_most zero u o s = nobody s
-recalling_at_most (suc n) u o s = recall_and u (recalling_at_most n u o) s (first u o s (on_cycles u s))
+unfoldable pub recall_result_within : ℕ → Relations → Order → State → Recalled
+recall_result_within zero u o s = nobody s
+recall_result_within (suc n) u o s = recall_and u (recall_result_within n u o) s (first u o s (on_cycles u s))
 
 -- while a dispatch is on a cycle, the first of all that are on cycles is recalled; each recall takes an open dispatch out, so there are no more turns than open dispatches
-unfoldable pub recalling : Relations → Order → State → Recalled
-recalling u o s = recalling_at_most (length s.opened) u o s
+unfoldable pub recall_result : Relations → Order → State → Recalled
+recall_result u o s = recall_result_within (length s.opened) u o s

@@ -5,10 +5,10 @@ use Rattle.model.specs.Search.{any}
 use Rattle.model.specs.Claims.{claim_waits}
 use Rattle.model.specs.State.{State, new, is_open}
 use Rattle.model.specs.Recalling.{Order}
-use Rattle.model.specs.Calls.{Outcome, step, is_granted, is_covered}
+use Rattle.model.specs.Calls.{Outcome, step, answer_granted, answer_covered}
 use Rattle.model.specs.declared.call.Call.{Call}
 use Rattle.model.specs.declared.call.Call.TheVariants as call
-use Rattle.model.specs.declared.report.Named.{Named}
+use Rattle.model.specs.declared.report.ReportEntry.{ReportEntry}
 use Rattle.model.specs.declared.state.Detection.{Detection}
 
 -- a run: the making of a book, and calls one after another
@@ -36,13 +36,13 @@ EachCall P (start detection) = Unit {0}
 EachCall P (next r c) = EachCall P r × P r c
 
 -- the list names the dispatch with the section
-abbrev pub names : List Named → ℕ → ℕ → Type 0
+abbrev pub names : List ReportEntry → ℕ → ℕ → Type 0
 names ns d section = any (λ n. (n.dispatch == d) && n.section == section) ns ≡ true
 
 -- a call grants a dispatch a use of a section: by its answer, or by naming the dispatch as woken, for the claim that waited
 pub data Grants (u : Relations) (o : Order) (r : Run) (c : Call) (d section mode : ℕ) : Type 0 where
-  by_grant : c ≡ call.Claim d section mode → (outcome u o r c).answer ≡ is_granted → Grants u o r c d section mode
-  by_cover : c ≡ call.Claim d section mode → (outcome u o r c).answer ≡ is_covered → Grants u o r c d section mode
+  by_grant : c ≡ call.Claim d section mode → (outcome u o r c).answer ≡ answer_granted → Grants u o r c d section mode
+  by_cover : c ≡ call.Claim d section mode → (outcome u o r c).answer ≡ answer_covered → Grants u o r c d section mode
   by_wake : names (outcome u o r c).wakes d section → claim_waits u (at u o r).claims d section mode ≡ true → Grants u o r c d section mode
 
 -- the dispatch was granted the use of the section, and has been open at every moment since

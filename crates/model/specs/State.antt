@@ -4,12 +4,12 @@ use Rattle.model.specs.Search.{member}
 use Rattle.model.specs.Claims.{without}
 use Rattle.model.specs.declared.state.Claim.{Claim}
 use Rattle.model.specs.declared.state.Detection.{Detection}
-use Rattle.model.specs.declared.state.Opened.{Opened}
+use Rattle.model.specs.declared.state.OpenEntry.{OpenEntry}
 
 -- all that a book keeps
 pub record State : Type 0 where
   -- the open list: the open dispatches with their weights, in order of opening
-  pub opened : List Opened
+  pub opened : List OpenEntry
   -- the recalled set: who was recalled and has not been acknowledged yet
   pub recalled : ℕ → Bool
   -- the claim list: the claims, in order of arrival
@@ -22,7 +22,7 @@ abbrev pub new : Detection → State
 new detection = record { opened = []; recalled = λ d. false; claims = []; detection = detection }
 
 -- the numbers of the open dispatches, in order of opening
-abbrev pub numbers : List Opened → List ℕ
+abbrev pub numbers : List OpenEntry → List ℕ
 numbers es = map (λ e. e.dispatch) es
 
 -- the dispatch is open
@@ -34,21 +34,21 @@ abbrev pub is_free : State → ℕ → Bool
 is_free s d = not (is_open s d) && not (s.recalled d)
 
 -- the open list without the dispatch
-abbrev pub closed : ℕ → List Opened → List Opened
-closed d es = filter (λ e. not (e.dispatch == d)) es
+abbrev pub entries_without : ℕ → List OpenEntry → List OpenEntry
+entries_without d es = filter (λ e. not (e.dispatch == d)) es
 
 -- the dispatch's claims and its open entry are taken out
-abbrev pub taken_out : ℕ → State → State
-taken_out d s = record { opened = closed d s.opened; recalled = s.recalled; claims = without d s.claims; detection = s.detection }
+abbrev pub state_without : ℕ → State → State
+state_without d s = record { opened = entries_without d s.opened; recalled = s.recalled; claims = without d s.claims; detection = s.detection }
 
 -- the dispatch joins the recalled set
-abbrev pub joined : ℕ → State → State
-joined d s = record { opened = s.opened; recalled = λ e. (e == d) || s.recalled e; claims = s.claims; detection = s.detection }
+abbrev pub with_recalled : ℕ → State → State
+with_recalled d s = record { opened = s.opened; recalled = λ e. (e == d) || s.recalled e; claims = s.claims; detection = s.detection }
 
 -- the dispatch is recalled: it is taken out and joins the recalled set
 abbrev pub recall : ℕ → State → State
-recall d s = joined d (taken_out d s)
+recall d s = with_recalled d (state_without d s)
 
 -- the claim is entered at the end of the claim list
-abbrev pub entered : Claim → State → State
-entered c s = record { opened = s.opened; recalled = s.recalled; claims = s.claims ++ c ∷ []; detection = s.detection }
+abbrev pub state_with_claim : Claim → State → State
+state_with_claim c s = record { opened = s.opened; recalled = s.recalled; claims = s.claims ++ c ∷ []; detection = s.detection }

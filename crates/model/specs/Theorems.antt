@@ -8,7 +8,7 @@ use Rattle.model.specs.Graph.{OnCycle, on_cycle}
 use Rattle.model.specs.Claims.{blocks, waits_for}
 use Rattle.model.specs.State.{State, new, numbers}
 use Rattle.model.specs.Recalling.{Order, first}
-use Rattle.model.specs.Calls.{step, is_refused}
+use Rattle.model.specs.Calls.{step, answer_refused}
 use Rattle.model.specs.Invariant.{WellFormed, Invariant}
 use Rattle.model.specs.Firsts.{IsFirst}
 use Rattle.model.specs.Runs.{Run}
@@ -52,7 +52,7 @@ ReportFits =
 -- a claim is refused for want of room only where 512 claims stand
 abbrev pub RefusedWhenFull : Type 0
 RefusedWhenFull =
-    (u : Relations) (o : Order) (s : State) → Invariant u s → (d section mode : ℕ) → (step u o s (call.Claim d section mode)).answer ≡ is_refused 9 → length s.claims ≡ 512
+    (u : Relations) (o : Order) (s : State) → Invariant u s → (d section mode : ℕ) → (step u o s (call.Claim d section mode)).answer ≡ answer_refused 9 → length s.claims ≡ 512
 
 -- a claim that nothing blocks adds no step of waiting
 abbrev pub NoNewStep : Type 0

@@ -1,10 +1,10 @@
 // What a call tells beside its answer: whom it recalled and whom it woke.
 ghost use Rattle.std.specs.Prelude.{◌≡◌, ◌+◌, ◌<◌, List, [], ◌∷◌, ◌++◌};
-ghost use Rattle.model.specs.Calls.{filled};
+ghost use Rattle.model.specs.Calls.{report_of};
 
 // A dispatch that a report names.
 #[derive(Clone, Copy, Debug, PartialEq, Eq)]
-pub struct Named {
+pub struct ReportEntry {
     pub dispatch: u8,
     // the section of its claim that waited
     pub section: u16,
@@ -28,7 +28,7 @@ pub struct Report {
 impl Report {
     // A report that names nobody.
     pub fn empty() -> Report
-        ensures { result ≡ filled [] [] }
+        ensures { result ≡ report_of [] [] }
     {
         Report {
             recalled: 0,
@@ -41,28 +41,28 @@ impl Report {
     // Names one more recalled dispatch, where nobody is named as woken yet.
     // Kept: beside `name_woken`, though both write one place: what they share is two lines, and a
     // third method for those would need a contract longer than they are.
-    pub fn name_recalled(&mut self, named: Named)
+    pub fn name_recalled(&mut self, entry: ReportEntry)
         requires { self.old.recalled < 64 }
         ensures recalled { self.new.recalled ≡ self.old.recalled + 1 }
         ensures woken { self.new.woken ≡ self.old.woken }
-        ensures named { (recalls : List Named) → self.old ≡ filled recalls [] → self.new ≡ filled (recalls ++ named ∷ []) [] }
+        ensures named { (recalls : List ReportEntry) → self.old ≡ report_of recalls [] → self.new ≡ report_of (recalls ++ entry ∷ []) [] }
     {
         let place = self.recalled as usize;
-        self.dispatches[place] = named.dispatch;
-        self.sections[place] = named.section;
+        self.dispatches[place] = entry.dispatch;
+        self.sections[place] = entry.section;
         self.recalled += 1;
     }
 
     // Names one more woken dispatch.
-    pub fn name_woken(&mut self, named: Named)
+    pub fn name_woken(&mut self, entry: ReportEntry)
         requires { self.old.recalled + self.old.woken < 64 }
         ensures recalled { self.new.recalled ≡ self.old.recalled }
         ensures woken { self.new.woken ≡ self.old.woken + 1 }
-        ensures named { (recalls wakes : List Named) → self.old ≡ filled recalls wakes → self.new ≡ filled recalls (wakes ++ named ∷ []) }
+        ensures named { (recalls wakes : List ReportEntry) → self.old ≡ report_of recalls wakes → self.new ≡ report_of recalls (wakes ++ entry ∷ []) }
     {
         let place = self.recalled as usize + self.woken as usize;
-        self.dispatches[place] = named.dispatch;
-        self.sections[place] = named.section;
+        self.dispatches[place] = entry.dispatch;
+        self.sections[place] = entry.section;
         self.woken += 1;
     }
 }

@@ -11,7 +11,7 @@ pub enum Detection {
 
 // An entry of the open list: an open dispatch (an active transaction).
 #[derive(Clone, Copy, Debug, PartialEq, Eq)]
-pub struct Opened {
+pub struct OpenEntry {
     pub dispatch: u8,
     pub weight: u16,
 }

@@ -1,5 +1,5 @@
 // The arguments of the program.
-use choices::setting::{Setting, Wrong, choose};
+use settings::setting::{Setting, Wrong, choose};
 use std::env::Args;
 
 // Reads the arguments, the program's own name first.

@@ -4,11 +4,11 @@
 mod arguments;
 
 use crate::arguments::read_setting;
-use choices::setting::{Setting, Wrong};
+use session::console::Console;
+use session::serving::serve;
+use settings::setting::{Setting, Wrong};
 use std::process::ExitCode;
 use std::{env, io};
-use transcripts::console::Console;
-use transcripts::serving::serve;
 
 // How the program is called.
 const USAGE: &str = "usage: replay DETECTION TABLE ORDER[,ORDER]
@@ -16,7 +16,7 @@ const USAGE: &str = "usage: replay DETECTION TABLE ORDER[,ORDER]
     TABLE      two, five or span
     ORDER      newest, lightest or fewest";
 
-// Says what is wrong with the arguments.
+// Answers what is wrong with the arguments.
 fn complain(rt: &HostRuntime, wrong: Wrong) -> io::Result<ExitCode> {
     eprintln!(rt; "replay: {wrong}")?;
     eprintln!(rt; "{USAGE}")?;

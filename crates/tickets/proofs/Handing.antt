@@ -2,10 +2,10 @@
 use Rattle.std.proofs.Common.{◌≡◌, ℕ, ◌≤◌, true, false, Some, None, Ok, Err, Option, Result, sym, refl, ap, ◌∙◌, subst, arith}
 use Rattle.std.proofs.lemmas.Bool.Decides.{nat_tests}
 use Rattle.uses.specs.Relations.{Relations}
-use Rattle.model.specs.State.{State, is_open, is_free, taken_out}
+use Rattle.model.specs.State.{State, is_open, is_free, state_without}
 use Rattle.model.specs.Recalling.{Order}
 use Rattle.model.specs.Questions.{condition, condition_asked}
-use Rattle.model.specs.Calls.{checks, refusal, acknowledged}
+use Rattle.model.specs.Calls.{checks, refusal, without_recalled}
 use Rattle.model.specs.declared.call.Call.TheVariants as call
 use Rattle.model.specs.declared.report.Report.{Report}
 use Rattle.model.specs.declared.state.Condition.{Condition}
@@ -91,16 +91,16 @@ module _ (u : Relations) (s : State) (d : ℕ) (small : d ≤ 63) where
     pub free_after : (k : Condition) → condition u s d ≡ k → (s.recalled d ≡ true → is_open s d ≡ false) → (a : Result Answer Refusal) → CarriedOut u o s (hand_in k d) a r t → is_free t d ≡ true
     free_after Running is never_both a h =
         let gone = open_closed d d s.opened in
-        let free : is_free (taken_out d s) d ≡ true = grind (arith, nat_tests, gone) in
+        let free : is_free (state_without d s) d ≡ true = grind (arith, nat_tests, gone) in
         ap (λ (x : State). is_free x d) (left_by u o s (call.Close d) r t a h None (checked Running is)) ∙ free
     free_after Waiting is never_both a h =
         let gone = open_closed d d s.opened in
-        let free : is_free (taken_out d s) d ≡ true = grind (arith, nat_tests, gone) in
+        let free : is_free (state_without d s) d ≡ true = grind (arith, nat_tests, gone) in
         ap (λ (x : State). is_free x d) (left_by u o s (call.Withdraw d) r t a h None (checked Waiting is)) ∙ free
     free_after Recalled is never_both a h =
         let was : s.recalled d ≡ true = grind (arith, nat_tests) in
         let shut = never_both was in
-        let free : is_free (acknowledged d s) d ≡ true = grind (arith, nat_tests, shut) in
+        let free : is_free (without_recalled d s) d ≡ true = grind (arith, nat_tests, shut) in
         ap (λ (x : State). is_free x d) (left_by u o s (call.Acknowledge d) r t a h None (checked Recalled is)) ∙ free
     free_after Free is never_both a h =
         let free : is_free s d ≡ true = grind (arith, nat_tests) in

@@ -3,11 +3,11 @@ use Rattle.std.proofs.Common.{◌≡◌, ℕ, Some, None, Ok, Err, Option, Resul
 use Rattle.uses.specs.Relations.{Relations}
 use Rattle.model.specs.State.{State}
 use Rattle.model.specs.Recalling.{Order}
-use Rattle.model.specs.Calls.{checks, refusal, accepted, effect_by, step, is_ok, is_refused}
+use Rattle.model.specs.Calls.{checks, refusal, accepted, effect_by, step, answer_ok, answer_refused}
 use Rattle.model.specs.declared.call.Call.{Call}
 use Rattle.model.specs.declared.report.Report.{Report}
-use Rattle.book.specs.Said.{number, said}
-use Rattle.book.specs.Carried.{CarriedOut, Done}
+use Rattle.book.specs.Said.{number, answer_of}
+use Rattle.book.specs.Carried.{CarriedOut, CarriesOut}
 use Rattle.book.specs.Held.{state}
 use Rattle.book.specs.declared.answers.Answer.{Answer}
 use Rattle.book.specs.declared.answers.Answer.TheVariants as answer
@@ -26,7 +26,7 @@ module _ (u : Relations) (o : Order) (s : State) (c : Call) (r : Report) (t : St
   left_by a h v is = h.left ∙ ap (λ (x : Option ℕ). (effect_by u o s c x).state) is
 
   -- no answer says what a refusal says
-  never_refused : (a : Answer) (n : ℕ) {A : Type 0} {x y : A} → said (Ok a) ≡ is_refused n → x ≡ y
+  never_refused : (a : Answer) (n : ℕ) {A : Type 0} {x y : A} → answer_of (Ok a) ≡ answer_refused n → x ≡ y
   never_refused answer.Ok n h = cc
   never_refused answer.Granted n h = cc
   never_refused answer.Covered n h = cc
@@ -42,7 +42,7 @@ module _ (u : Relations) (o : Order) (s : State) (c : Call) (r : Report) (t : St
       by_verdict (Some n) is = never_refused a n (h.answered ∙ answer_by (Some n) is)
 
   -- a call that is refused did not
-  pub failed : (e : Refusal) → (accepted u o s c).answer ≡ is_ok → CarriedOut u o s c (Err e) r t → refusal (checks u s c) ≡ Some (number e)
+  pub failed : (e : Refusal) → (accepted u o s c).answer ≡ answer_ok → CarriedOut u o s c (Err e) r t → refusal (checks u s c) ≡ Some (number e)
   failed e plain h = by_verdict (refusal (checks u s c)) refl
     where
       by_verdict : (v : Option ℕ) → refusal (checks u s c) ≡ v → refusal (checks u s c) ≡ Some (number e)
@@ -50,7 +50,7 @@ module _ (u : Relations) (o : Order) (s : State) (c : Call) (r : Report) (t : St
       by_verdict (Some n) is = let same = h.answered ∙ answer_by (Some n) is in cc
 
   -- a call whose one answer is ok was answered ok
-  pub answered_ok : (a : Answer) → (accepted u o s c).answer ≡ is_ok → CarriedOut u o s c (Ok a) r t → CarriedOut u o s c (Ok answer.Ok) r t
+  pub answered_ok : (a : Answer) → (accepted u o s c).answer ≡ answer_ok → CarriedOut u o s c (Ok a) r t → CarriedOut u o s c (Ok answer.Ok) r t
   answered_ok a plain h = record {
     answered = sym (answer_by None (passed a h) ∙ plain);
     reported = h.reported;
@@ -58,7 +58,7 @@ module _ (u : Relations) (o : Order) (s : State) (c : Call) (r : Report) (t : St
   }
 
 -- a call of a book whose one answer is ok was answered ok
-pub done_ok : {T O : Type 0} {tm : _} (uses : T → Relations) (orders : O → Order) (before after : Book T O tm) (c : Call) (r : Report) (a : Answer) → (accepted (uses before.policy.table) (orders before.policy.order) (state before.tables) c).answer ≡ is_ok → Done uses orders before c (Ok a) r after → Done uses orders before c (Ok answer.Ok) r after
+pub done_ok : {T O : Type 0} {tm : _} (uses : T → Relations) (orders : O → Order) (before after : Book T O tm) (c : Call) (r : Report) (a : Answer) → (accepted (uses before.policy.table) (orders before.policy.order) (state before.tables) c).answer ≡ answer_ok → CarriesOut uses orders before c (Ok a) r after → CarriesOut uses orders before c (Ok answer.Ok) r after
 done_ok uses orders before after c r a plain does = record {
   carried = answered_ok (uses before.policy.table) (orders before.policy.order) (state before.tables) c r (state after.tables) a plain does.carried;
   policy = does.policy;

@@ -1,7 +1,7 @@
 // The calls of a ticket.
 ghost use Rattle.std.specs.Prelude.{◌≡◌};
 ghost use Rattle.model.specs.declared.call.Call.TheVariants.{Open, Claim as ClaimCall};
-ghost use Rattle.book.specs.Carried.{Done, KeepsLaw};
+ghost use Rattle.book.specs.Carried.{CarriesOut, KeepsLaw};
 ghost use Rattle.tickets.specs.Answered.{booked, Names};
 
 use crate::ticket::Ticket;
@@ -21,7 +21,7 @@ impl Ticket {
         report: &mut Report,
     ) -> Result<Ticket, Refusal>
         ensures named { Names result dispatch }
-        ensures done { Done T.meaning O.meaning book.old (Open dispatch weight) (booked result) report.new book.new }
+        ensures done { CarriesOut T.meaning O.meaning book.old (Open dispatch weight) (booked result) report.new book.new }
         ensures law { KeepsLaw T.meaning O.meaning book.old (Open dispatch weight) (booked result) report.new book.new }
     {
         book.open(dispatch, weight, report)?;
@@ -43,7 +43,7 @@ impl Ticket {
         mode: u32,
         report: &mut Report,
     ) -> Result<Answer, Refusal>
-        ensures done { Done T.meaning O.meaning book.old (ClaimCall self.now.dispatch section mode) result report.new book.new }
+        ensures done { CarriesOut T.meaning O.meaning book.old (ClaimCall self.now.dispatch section mode) result report.new book.new }
         ensures law { KeepsLaw T.meaning O.meaning book.old (ClaimCall self.now.dispatch section mode) result report.new book.new }
     {
         let asked = Call::Claim {

@@ -1,7 +1,7 @@
 // Handing a ticket in.
 ghost use Rattle.std.specs.Prelude.{◌≡◌, true};
 ghost use Rattle.model.specs.State.{is_free};
-ghost use Rattle.book.specs.Carried.{Done, KeepsLaw};
+ghost use Rattle.book.specs.Carried.{CarriesOut, KeepsLaw};
 ghost use Rattle.book.specs.Held.{state};
 ghost use Rattle.tickets.specs.Answered.{booked};
 ghost use Rattle.tickets.specs.HandIn.{how_stands, hand_in, ending};
@@ -22,7 +22,7 @@ fn end<T: UseTable, O: RecallOrder>(
     condition: Condition,
     report: &mut Report,
 ) -> Result<Answer, Refusal>
-    ensures { Done T.meaning O.meaning book.old (hand_in condition dispatch) result report.new book.new }
+    ensures { CarriesOut T.meaning O.meaning book.old (hand_in condition dispatch) result report.new book.new }
 {
     match condition {
         Condition::Running => book.close(dispatch, report),
@@ -54,7 +54,7 @@ impl Ticket {
         report: &mut Report,
     ) -> Result<Ending, Refusal>
         ensures ended { result ≡ ending (how_stands T.meaning book.old self.dispatch) }
-        ensures done { Done T.meaning O.meaning book.old (hand_in (how_stands T.meaning book.old self.dispatch) self.dispatch) (booked result) report.new book.new }
+        ensures done { CarriesOut T.meaning O.meaning book.old (hand_in (how_stands T.meaning book.old self.dispatch) self.dispatch) (booked result) report.new book.new }
         ensures law { KeepsLaw T.meaning O.meaning book.old (hand_in (how_stands T.meaning book.old self.dispatch) self.dispatch) (booked result) report.new book.new }
         ensures freed { is_free (state book.new.tables) self.dispatch ≡ true }
     {

@@ -1,5 +1,5 @@
 use Rattle.std.proofs.Common.{ℕ, Ok, refl, ap, ◌∙◌}
-use Rattle.model.specs.Calls.{acknowledged}
+use Rattle.model.specs.Calls.{without_recalled}
 use Rattle.model.specs.declared.call.Call.TheVariants as call
 use Rattle.model.proofs.Wakes.{woken_same}
 use Rattle.book.specs.Held.{state}
@@ -20,8 +20,8 @@ carried g c =
     let u = g.T.UseTable.meaning b.policy.table in
     let s = state b.tables in
     let passed = c.in_ok-number.ensures in
-    let gone = c.acknowledge.ensures ∙ ap (λ (n : ℕ). acknowledged n s) passed.1 in
-    carried_plain u (g.O.RecallOrder.meaning b.policy.order) s (call.Acknowledge c.args.dispatch) c.empty.result (state c.acknowledge.new.self) (acknowledged c.args.dispatch s) passed.0 refl (woken_same u s (acknowledged c.args.dispatch s) refl) c.empty.ensures gone
+    let gone = c.acknowledge.ensures ∙ ap (λ (n : ℕ). without_recalled n s) passed.1 in
+    carried_plain u (g.O.RecallOrder.meaning b.policy.order) s (call.Acknowledge c.args.dispatch) c.empty.result (state c.acknowledge.new.self) (without_recalled c.args.dispatch s) passed.0 refl (woken_same u s (without_recalled c.args.dispatch s) refl) c.empty.ensures gone
 
 pub invariant_of-self : goal.invariant_of-self
 invariant_of-self g c =

@@ -1,7 +1,7 @@
 use Rattle.std.proofs.Common.{Ok, refl, ap, ◌∙◌}
-use Rattle.model.specs.Calls.{opening}
+use Rattle.model.specs.Calls.{with_open}
 use Rattle.model.specs.declared.call.Call.TheVariants as call
-use Rattle.model.specs.declared.state.Opened.{Opened}
+use Rattle.model.specs.declared.state.OpenEntry.{OpenEntry}
 use Rattle.model.proofs.Steps.{passed_opening}
 use Rattle.model.proofs.Wakes.{woken_same}
 use Rattle.book.specs.Held.{state}
@@ -28,9 +28,9 @@ carried g c =
     let b = c.args.self.now in
     let u = g.T.UseTable.meaning b.policy.table in
     let s = state b.tables in
-    let opened = opening c.args.dispatch c.args.weight s in
+    let opened = with_open c.args.dispatch c.args.weight s in
     let checked = c.in_ok-newcomer.ensures in
-    let joined = c.open.ensures ∙ ap (λ (e : Opened). opening e.dispatch e.weight s) checked.1 in
+    let joined = c.open.ensures ∙ ap (λ (e : OpenEntry). with_open e.dispatch e.weight s) checked.1 in
     carried_plain u (g.O.RecallOrder.meaning b.policy.order) s (call.Open c.args.dispatch c.args.weight) c.empty.result (state c.open.new.self) opened checked.0 refl (woken_same u s opened refl) c.empty.ensures joined
 
 pub invariant_of-self : goal.invariant_of-self

@@ -1,8 +1,8 @@
 use Rattle.std.proofs.Common.{◌≡◌, Ok, refl, ap}
 use Rattle.uses.specs.Relations.{Relations}
 use Rattle.model.specs.State.{State}
-use Rattle.model.specs.Recalling.{Recalled, recalling}
-use Rattle.model.specs.Calls.{swept, filled, woken}
+use Rattle.model.specs.Recalling.{Recalled, recall_result}
+use Rattle.model.specs.Calls.{swept, report_of, woken}
 use Rattle.model.specs.declared.call.Call.TheVariants as call
 use Rattle.model.specs.declared.report.Report.{Report}
 use Rattle.book.specs.Held.{state}
@@ -32,10 +32,10 @@ module _ (g : given.Over) (c : After-recall_all g) where
 
   -- who is recalled, and the state left
   abbrev r : Recalled
-  r = recalling u (g.O.RecallOrder.meaning c.args.self.now.policy.order) s
+  r = recall_result u (g.O.RecallOrder.meaning c.args.self.now.policy.order) s
 
   -- the sweep, with a report that names whom it wakes
-  carried : (named : Report) → named ≡ filled r.recalls (woken u s r.state) → CarriedOutIn g.T.UseTable.meaning g.O.RecallOrder.meaning c.args.self.now call.Sweep (Ok answer.Ok) named (state c.recall_all.new.self)
+  carried : (named : Report) → named ≡ report_of r.recalls (woken u s r.state) → CarriedOutIn g.T.UseTable.meaning g.O.RecallOrder.meaning c.args.self.now call.Sweep (Ok answer.Ok) named (state c.recall_all.new.self)
   carried named is = carried_accepted u (g.O.RecallOrder.meaning c.args.self.now.policy.order) s call.Sweep answer.Ok (swept r) named (state c.recall_all.new.self) refl refl refl is c.recall_all.ensures.after
 
 pub invariant_of-self : goal.invariant_of-self

@@ -1,5 +1,5 @@
 use Rattle.std.proofs.Common.{◌≡◌, [], ap, arith}
-use Rattle.model.specs.State.{taken_out}
+use Rattle.model.specs.State.{state_without}
 use Rattle.model.specs.declared.report.Report.{Report}
 use Rattle.book.specs.Held.{state}
 use Rattle.book.proofs.Steady.{tables_steady, steady_few}
@@ -20,5 +20,5 @@ returns g c =
     let b = c.args.self.now in
     record {
       after = c.take_out.ensures;
-      named = woken_at (g.T.UseTable.meaning c.args.table.now) (state b) (state c.take_out.new.self) (taken_out c.args.dispatch (state b)) [] c.empty-report.result c.name_all_woken.new.report c.waiting_sections-before.result c.take_out.ensures c.waiting_sections-before.ensures c.name_all_woken.ensures c.empty-report.ensures;
+      named = woken_at (g.T.UseTable.meaning c.args.table.now) (state b) (state c.take_out.new.self) (state_without c.args.dispatch (state b)) [] c.empty-report.result c.name_all_woken.new.report c.waiting_sections-before.result c.take_out.ensures c.waiting_sections-before.ensures c.name_all_woken.ensures c.empty-report.ensures;
     }

@@ -1,7 +1,7 @@
 use Rattle.std.proofs.Common.{[], sym, ap, ◌∙◌}
-use Rattle.model.specs.State.{entered}
-use Rattle.model.specs.Recalling.{Recalled, recalling}
-use Rattle.model.specs.Calls.{filled}
+use Rattle.model.specs.State.{state_with_claim}
+use Rattle.model.specs.Recalling.{Recalled, recall_result}
+use Rattle.model.specs.Calls.{report_of}
 use Rattle.model.specs.declared.report.Report.{Report}
 use Rattle.book.specs.Held.{state}
 use Rattle.book.proofs.Entering.{answer_by_open, stands}
@@ -24,13 +24,13 @@ returns g c =
     let u = g.T.UseTable.meaning c.args.policy.now.table in
     let o = g.O.RecallOrder.meaning c.args.policy.now.order in
     let claim = c.args.claim in
-    let t = entered claim (state b) in
+    let t = state_with_claim claim (state b) in
     let b₂ = c.recall_all.new.self in
-    let same = ap (recalling u o) c.enter.ensures in
+    let same = ap (recall_result u o) c.enter.ensures in
     let after = c.recall_all.ensures.after ∙ ap (λ (x : Recalled). x.state) same in
     let g₁ = steady_grounded t (steady_entered b.opened b.claims claim c.requires.here (tables_steady b)) in
     record {
       answered = c.claim_answer.ensures ∙ (ap (stands u claim.dispatch) after ∙ sym (answer_by_open u o (g.met.O.RecallOrder.lawful c.args.policy.now.order) t g₁ claim.dispatch c.requires.here));
-      named = woken_at u (state b) (state b₂) (recalling u o t).state (recalling u o t).recalls c.recall_all.result c.name_all_woken.new.report c.waiting_sections-before.result after c.waiting_sections-before.ensures c.name_all_woken.ensures (c.recall_all.ensures.named ∙ ap (λ (x : Recalled). filled x.recalls []) same);
+      named = woken_at u (state b) (state b₂) (recall_result u o t).state (recall_result u o t).recalls c.recall_all.result c.name_all_woken.new.report c.waiting_sections-before.result after c.waiting_sections-before.ensures c.name_all_woken.ensures (c.recall_all.ensures.named ∙ ap (λ (x : Recalled). report_of x.recalls []) same);
       left = after;
     }

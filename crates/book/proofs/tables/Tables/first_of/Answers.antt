@@ -1,6 +1,6 @@
 use Rattle.std.proofs.Common.{Some, filter, sym, ap, ◌∙◌}
 use Rattle.std.proofs.lemmas.List.{take_all}
-use Rattle.marks.specs.Marks.{marked}
+use Rattle.dispatch_set.specs.DispatchSet.{contains}
 use Rattle.model.specs.Recalling.{first}
 use Rattle.model.specs.State.{numbers}
 use Rattle.book.specs.Better.{better}
@@ -17,8 +17,8 @@ loop-e-preserved g c =
     let lawful = g.met.O.RecallOrder.lawful c.args.policy.now.order in
     let es = c.rows-e-items.result.now in
     elim c.if-contains.branch [
-      | then-contains w ↦ w.best-is ∙ (ap Some (w.better.ensures ∙ ap (better u o (state b) _) c.loop-e.invariant) ∙ first_more u o lawful (state b) (marked c.args.set) es c.loop-e.e-index none_opened c.loop-e-test.true (sym w.if-contains.ensures))
-      | else-contains w ↦ w.best-is ∙ (c.loop-e.invariant ∙ first_same u o lawful (state b) (marked c.args.set) es c.loop-e.e-index none_opened c.loop-e-test.true (sym w.if-contains.ensures))
+      | then-contains w ↦ w.best-is ∙ (ap Some (w.better.ensures ∙ ap (better u o (state b) _) c.loop-e.invariant) ∙ first_more u o lawful (state b) (contains c.args.set) es c.loop-e.e-index none_opened c.loop-e-test.true (sym w.if-contains.ensures))
+      | else-contains w ↦ w.best-is ∙ (c.loop-e.invariant ∙ first_same u o lawful (state b) (contains c.args.set) es c.loop-e.e-index none_opened c.loop-e-test.true (sym w.if-contains.ensures))
     ]
 
 pub returns : goal.returns
@@ -27,5 +27,5 @@ returns g c =
     let u = g.T.UseTable.meaning c.args.policy.now.table in
     let o = g.O.RecallOrder.meaning c.args.policy.now.order in
     c.loop-e.invariant
-    ∙ ap (λ es. first u o (state b) (filter (marked c.args.set) (numbers es)))
+    ∙ ap (λ es. first u o (state b) (filter (contains c.args.set) (numbers es)))
     (take_all c.loop-e.e-index c.rows-e-items.result.now c.loop-e-test.false ∙ c.rows-e-items.ensures.value)

@@ -1,9 +1,9 @@
 use Rattle.std.proofs.Common.{◌≡◌, ◌≤◌, not, ◌&&◌, List, [], map, take, filter}
 use Rattle.model.specs.Claims.{dispatch_waits}
 use Rattle.model.specs.State.{State, numbers}
-use Rattle.model.specs.Recalling.{named}
-use Rattle.model.specs.Calls.{filled}
-use Rattle.model.specs.declared.report.Named.{Named}
+use Rattle.model.specs.Recalling.{entry_of}
+use Rattle.model.specs.Calls.{report_of}
+use Rattle.model.specs.declared.report.ReportEntry.{ReportEntry}
 use Rattle.book.specs.Held.{state}
 use Rattle.book.specs.Before.{SectionsOf}
 use Rattle.book.proofs.tables.Tables.name_all_woken.Given as goal
@@ -13,4 +13,4 @@ invariant-loop-e g l =
     let u = g.T.UseTable.meaning l.table in
     (l.report.recalled ≡ l.initial.report.recalled)
     × (l.report.woken ≤ l.e-index)
-    × ((s : State) (rs : List Named) → SectionsOf u s l.before → l.initial.report ≡ filled rs [] → l.report ≡ filled rs (map (named u s) (filter (λ d. dispatch_waits u s.claims d && not (dispatch_waits u (state l.self).claims d)) (numbers (take l.e-index l.e-items)))))
+    × ((s : State) (rs : List ReportEntry) → SectionsOf u s l.before → l.initial.report ≡ report_of rs [] → l.report ≡ report_of rs (map (entry_of u s) (filter (λ d. dispatch_waits u s.claims d && not (dispatch_waits u (state l.self).claims d)) (numbers (take l.e-index l.e-items)))))

@@ -1,8 +1,8 @@
 use Rattle.std.proofs.Common.{◌≡◌, ℕ, ◌+◌, ◌<◌, ◌≤◌, List, [], ◌∷◌, ◌++◌, length, Option, unwrap_or, sym, ap, ◌∙◌, subst, arith}
 use Rattle.model.specs.State.{State}
-use Rattle.model.specs.Recalling.{named}
-use Rattle.model.specs.Calls.{filled}
-use Rattle.model.specs.declared.report.Named.{Named}
+use Rattle.model.specs.Recalling.{entry_of}
+use Rattle.model.specs.Calls.{report_of}
+use Rattle.model.specs.declared.report.ReportEntry.{ReportEntry}
 use Rattle.model.specs.declared.report.Report.{Report}
 use Rattle.model.proofs.Turns.{victim_open}
 use Rattle.book.specs.Held.{state}
@@ -44,9 +44,9 @@ loop-turn-preserved g c =
     let u = g.T.UseTable.meaning c.args.policy.now.table in
     let o = g.O.RecallOrder.meaning c.args.policy.now.order in
     let d = c.in-Some.dispatch in
-    let who : ◌≡◌ {A = Named} (record { dispatch = d; section = c.unwrap_or-section.result }) (named u (state b) d) = ap (name d) (c.unwrap_or-section.ensures ∙ ap (λ (v : Option ℕ). unwrap_or v 65535) c.waiting_section-waiting.ensures) in
-    let more : (rs : List Named) → c.loop-turn.report ≡ filled rs [] → c.name_recalled.new.self ≡ filled (rs ++ named u (state b) d ∷ []) [] =
-    λ rs is. c.name_recalled.ensures.named rs is ∙ ap (λ (n : Named). filled (rs ++ n ∷ []) []) who
+    let who : ◌≡◌ {A = ReportEntry} (record { dispatch = d; section = c.unwrap_or-section.result }) (entry_of u (state b) d) = ap (name d) (c.unwrap_or-section.ensures ∙ ap (λ (v : Option ℕ). unwrap_or v 65535) c.waiting_section-waiting.ensures) in
+    let more : (rs : List ReportEntry) → c.loop-turn.report ≡ report_of rs [] → c.name_recalled.new.self ≡ report_of (rs ++ entry_of u (state b) d ∷ []) [] =
+    λ rs is. c.name_recalled.ensures.named rs is ∙ ap (λ (n : ReportEntry). report_of (rs ++ n ∷ []) []) who
     in
     let turned =
     turned_more u o (state b₀) (state b) c.loop-turn._turn c.loop-turn.report c.name_recalled.new.self d low (sym c.victim.ensures ∙ c.in-Some.is)

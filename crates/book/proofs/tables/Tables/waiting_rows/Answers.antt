@@ -1,5 +1,5 @@
 use Rattle.std.proofs.Common.{◌≡◌, rules}
-use Rattle.marks.specs.Marks.{marked, unmarked}
+use Rattle.dispatch_set.specs.DispatchSet.{contains, empty_set}
 use Rattle.model.specs.Claims.{waits_for}
 use Rattle.book.specs.Held.{state}
 use Rattle.book.proofs.Made.{made_at}
@@ -12,4 +12,4 @@ returns g c =
     let u = g.T.UseTable.meaning c.args.table.now in
     let b = c.args.self.now in
     rows_right u (state b) (tables_steady b) c.from_fn.result c.from_fn.ensures.items.long
-    (λ d low. made_at _ _ (λ d row. marked row ≡ waits_for u b.claims d) (λ d row q called. search rules) c.from_fn.result 64 c.from_fn.ensures.items d unmarked low)
+    (λ d low. made_at _ _ (λ d row. contains row ≡ waits_for u b.claims d) (λ d row q called. search rules) c.from_fn.result 64 c.from_fn.ensures.items d empty_set low)

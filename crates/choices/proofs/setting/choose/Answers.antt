@@ -1,6 +1,0 @@
-use Rattle.std.proofs.Common.{rules}
-use Rattle.choices.proofs.setting.choose.Goals as goal
-
-pub returns-in_default-parse-2 : goal.returns-in_default-parse-2
-returns-in_default-parse-2 c =
-    ((c.in-Some.detection, search rules), (c.in-Ok.table, search rules), search rules, search rules)

@@ -1,5 +1,0 @@
-use Rattle.lines.proofs.OneReading.{reading_unique}
-use Rattle.lines.proofs.theorems.reading_is_unique.Goals as goal
-
-pub returns : goal.returns
-returns c = reading_unique

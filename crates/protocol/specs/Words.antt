@@ -1,0 +1,65 @@
+-- The printed bytes.
+use Rattle.std.specs.Prelude.{ℕ, List, [], ◌∷◌, ◌++◌, take, drop, codes, decimal, Result}
+use Rattle.std.specs.declared.result.Result.TheVariants as result
+use Rattle.model.specs.Calls.{ModelAnswer, answer_refused}
+use Rattle.model.specs.declared.report.ReportEntry.{ReportEntry}
+use Rattle.model.specs.declared.report.Report.{Report}
+use Rattle.book.specs.Said.{answer_of, answer_words}
+use Rattle.book.specs.declared.answers.Answer.{Answer}
+use Rattle.protocol.specs.Faults.{fault_number, fault_place, fault_layer}
+use Rattle.protocol.specs.declared.fault.Fault.{Fault}
+use Rattle.protocol.specs.declared.fault.Layer.{Layer}
+use Rattle.protocol.specs.declared.fault.Layer.TheVariants.{Line, UseTable, Book}
+
+-- the reply to a line: the book's answer, or a line fault with its number and its place
+pub data Reply : Type 0 where
+  answer : ModelAnswer → Reply
+  fault : ℕ → ℕ → Reply
+
+-- the words of a reply
+abbrev pub words : Reply → List ℕ
+words (answer says) = answer_words says
+words (fault number place) = codes "fault " ++ (decimal number ++ (codes " at " ++ decimal place))
+
+-- a printed line: the number of the line that it answers, a space, words, and byte 10
+abbrev pub printed_line : ℕ → List ℕ → List ℕ
+printed_line number ws = decimal number ++ (codes " " ++ (ws ++ 10 ∷ []))
+
+-- a word, a dispatch and a section
+abbrev pub named_words : List ℕ → ReportEntry → List ℕ
+named_words word x = word ++ (codes " " ++ (decimal x.dispatch ++ (codes " " ++ decimal x.section)))
+
+-- a printed line for each of the named
+abbrev pub named_lines : ℕ → List ℕ → List ReportEntry → List ℕ
+named_lines number word [] = []
+named_lines number word (x ∷ xs) = printed_line number (named_words word x) ++ named_lines number word xs
+
+-- all that is printed for a line: the reply, then the recalled, then the woken
+unfoldable pub printed : ℕ → Reply → List ReportEntry → List ReportEntry → List ℕ
+printed number reply recalls wakes =
+    printed_line number (words reply) ++ (named_lines number (codes "recall") recalls ++ named_lines number (codes "wake") wakes)
+
+-- a fault of the line layer is a line fault, any other is a refusal
+abbrev pub fault_reply : Layer → ℕ → ℕ → Reply
+fault_reply Line number place = fault number place
+fault_reply UseTable number place = answer (answer_refused number)
+fault_reply Book number place = answer (answer_refused number)
+
+-- the reply that an outcome is
+abbrev pub reply_to : Result Answer Fault → Reply
+reply_to (result.Ok a) = answer (answer_of (result.Ok a))
+reply_to (result.Err f) = fault_reply (fault_layer f) (fault_number f) (fault_place f)
+
+-- numbers beside sections
+abbrev pub names : List ℕ → List ℕ → List ReportEntry
+names [] ss = []
+names (d ∷ ds) [] = []
+names (d ∷ ds) (s ∷ ss) = record { dispatch = d; section = s } ∷ names ds ss
+
+-- the recalled that a report names: the first places
+abbrev pub named_recalled : Report → List ReportEntry
+named_recalled r = names (take r.recalled r.dispatches) (take r.recalled r.sections)
+
+-- the woken that a report names: the places after those
+abbrev pub named_woken : Report → List ReportEntry
+named_woken r = names (take r.woken (drop r.recalled r.dispatches)) (take r.woken (drop r.recalled r.sections))

@@ -1,0 +1,104 @@
+// The printed bytes of an outcome.
+// Kept: the number of a line and `out` are passed side by side, since a struct of both would borrow
+// `out`, and contracts would then speak of what is lent.
+ghost use Rattle.std.specs.Prelude.{◌≡◌, ◌≤◌, length, Err};
+ghost use Rattle.text_buffer.specs.Text.{put_behind};
+ghost use Rattle.protocol.specs.Words.{words, printed_line, named_words, named_lines, names, printed, reply_to, named_recalled, named_woken};
+
+use crate::fault::{Fault, Layer};
+use book::answers::Answer;
+use model::report::{Report, ReportEntry};
+use text_buffer::place::Printed;
+
+// Puts the words of a fault: a fault of the line says its place, any other is a refusal.
+// Kept: beside the `Display` of `Fault`, for the reason that stands at `Printed::put_number`.
+fn put_fault(fault: Fault, out: &mut Printed)
+    ensures puts { out.new ≡ put_behind out.old (words (reply_to (Err fault))) }
+    ensures short { length (words (reply_to (Err fault))) ≤ 16 }
+{
+    match fault.layer() {
+        Layer::Line => {
+            out.put_all(b"fault ");
+            out.put_number(u32::from(fault.number()));
+            out.put_all(b" at ");
+            out.put_number(u32::from(fault.place()));
+        }
+        Layer::UseTable | Layer::Book => {
+            out.put_all(b"refused ");
+            out.put_number(u32::from(fault.number()));
+        }
+    }
+}
+
+// Puts the printed line of a reply.
+fn put_reply(number: u32, outcome: Result<Answer, Fault>, out: &mut Printed)
+    ensures puts { out.new ≡ put_behind out.old (printed_line number (words (reply_to outcome))) }
+    ensures short { length (printed_line number (words (reply_to outcome))) ≤ 28 }
+{
+    out.put_number(number);
+    out.put(b' ');
+    match outcome {
+        Ok(answer) => out.put_all(answer.name().as_bytes()),
+        Err(fault) => put_fault(fault, out),
+    }
+    out.put(b'\n');
+}
+
+// Puts the printed line of one that a report names.
+fn put_name(number: u32, word: &[u8], named: ReportEntry, out: &mut Printed)
+    ensures { out.new ≡ put_behind out.old (printed_line number (named_words word.now named)) }
+{
+    out.put_number(number);
+    out.put(b' ');
+    out.put_all(word);
+    out.put(b' ');
+    out.put_number(u32::from(named.dispatch));
+    out.put(b' ');
+    out.put_number(u32::from(named.section));
+    out.put(b'\n');
+}
+
+// Puts a printed line for each of the dispatches, with its section beside it.
+// Kept: two slices, as the report has two arrays.
+fn put_names(number: u32, word: &[u8], dispatches: &[u8], sections: &[u16], out: &mut Printed)
+    requires { length out.old ≤ 2048 }
+    ensures { out.new ≡ put_behind out.old (named_lines number word.now (names dispatches.now sections.now)) }
+{
+    for (dispatch, section) in dispatches.iter().zip(sections.iter()) {
+        let named = ReportEntry {
+            dispatch: *dispatch,
+            section: *section,
+        };
+        put_name(number, word, named, out);
+    }
+}
+
+// Prints what a line gave, in the place of what was printed before: the reply, then the recalled,
+// then the woken, each after the number of the line.
+pub fn print_outcome(
+    number: u32,
+    outcome: Result<Answer, Fault>,
+    report: &Report,
+    out: &mut Printed,
+)
+    ensures { out.new ≡ printed number (reply_to outcome) (named_recalled report.now) (named_woken report.now) }
+{
+    let recalled = (report.recalled as usize).min(64);
+    let named = (recalled + report.woken as usize).min(64);
+    out.clear();
+    put_reply(number, outcome, out);
+    put_names(
+        number,
+        b"recall",
+        &report.dispatches[..recalled],
+        &report.sections[..recalled],
+        out,
+    );
+    put_names(
+        number,
+        b"wake",
+        &report.dispatches[recalled..named],
+        &report.sections[recalled..named],
+        out,
+    );
+}

@@ -1,0 +1,120 @@
+-- What a console has gathered of a piece, before the line that has begun comes to its end.
+use Rattle.std.proofs.Common.{◌≡◌, ℕ, ◌+◌, ◌<◌, Bool, true, false, not, cond, ltb, ◌==◌, Some, None, unwrap_or, List, [], ◌∷◌, ◌++◌, length, get_or, take, sym, refl, ap, ◌∙◌, subst, append_assoc, append-nil, arith}
+use Rattle.std.specs.List.{position_or_len}
+use Rattle.std.proofs.lemmas.List.{length-take, take_more, nil_from_length}
+use Rattle.std.proofs.lemmas.List.Sums.{prefix_len-le-length, passes_at_first}
+use Rattle.std.proofs.lemmas.Bool.Decides.{nat_tests}
+use Rattle.uses.specs.Relations.{Relations}
+use Rattle.model.specs.Recalling.{Order}
+use Rattle.model.specs.declared.state.Detection.{Detection}
+use Rattle.book.specs.Held.{state}
+use Rattle.book.specs.declared.book.Book.{Book}
+use Rattle.session.specs.Inputs.{Lines, more, Unbroken, Cut, with_rest, line_length}
+use Rattle.session.specs.Stands.{HasAnswered, HasRead, AnswersLine, EndsLines, Finishes}
+use Rattle.session.specs.declared.console.Console.{Console}
+use Rattle.session.proofs.Cutting.{cut_more, cut_end}
+use Rattle.session.proofs.Standing.{bytes_kept}
+
+-- byte 10
+abbrev pub is_end : ℕ → Bool
+is_end b = b == 10
+
+-- no byte 10 stands before the first
+pub unbroken_before : (piece : List ℕ) → Unbroken (take (position_or_len is_end piece) piece)
+unbroken_before [] = refl
+unbroken_before (b ∷ bs) = by_first (is_end b) refl (unbroken_before bs)
+  where
+    by_first : (t : Bool) → is_end b ≡ t → Unbroken (take (position_or_len is_end bs) bs) → Unbroken (take (cond (not (is_end b)) (1 + position_or_len is_end bs) 0) (b ∷ bs))
+    by_first true e whole = rw e refl
+    by_first false e whole = rw e (grind (arith, nat_tests, e, whole))
+
+-- the first byte 10 as `position` finds it, or the length
+pub first_or_length : (piece : List ℕ) → unwrap_or (cond (ltb (position_or_len is_end piece) (length piece)) (Some (position_or_len is_end piece)) None) (length piece) ≡ position_or_len is_end piece
+first_or_length piece = let h = prefix_len-le-length (λ b. not (is_end b)) piece in grind (arith, nat_tests, h)
+
+-- the bytes that belong to the line are those before the first byte 10, and byte 10
+line_length_is : (piece : List ℕ) → line_length piece ≡ cond (ltb (position_or_len is_end piece) (length piece)) (position_or_len is_end piece + 1) (position_or_len is_end piece)
+line_length_is [] = refl
+line_length_is (b ∷ bs) = let others = line_length_is bs in grind (arith, nat_tests, others)
+
+-- a piece without byte 10 belongs to the line
+pub all_of_line : (piece : List ℕ) (n : ℕ) → n ≡ position_or_len is_end piece → n ≡ length piece → n ≡ line_length piece
+all_of_line piece n is all = let long = line_length_is piece in grind (arith, nat_tests, is, all, long)
+
+-- in another the line ends with its first byte 10
+pub line_ends : (piece : List ℕ) (n : ℕ) → n ≡ position_or_len is_end piece → (n ≡ length piece → ⊥) → (n < length piece) × (n + 1 ≡ line_length piece) × (get_or piece n 0 ≡ 10)
+line_ends piece n is less =
+    let long = line_length_is piece in
+    let h = prefix_len-le-length (λ b. not (is_end b)) piece in
+    let inside : n < length piece = omega arith in
+    (inside, grind (arith, nat_tests, is, inside, long), let first = passes_at_first is_end piece 0 (omega arith) in rw is (grind (arith, nat_tests, first)))
+
+-- the console keeps what it kept at first and the first bytes of the piece, which do not end the line; all else stays
+pub record Gathered {T O : Type 0} {tm : _} (first now : Console T O tm) (piece : List ℕ) (n : ℕ) : Type 0 where
+  pub same_book : now.book ≡ first.book
+  pub same_count : now.answered ≡ first.answered
+  pub kept : now.line ≡ take 33 (first.line ++ take n piece)
+  pub unbroken : Unbroken (take n piece)
+
+-- where the console stands that has gathered bytes
+stands_gathered : {T O : Type 0} {tm : _} (u : Relations) (o : Order) (detection : Detection) (ended : Lines) (rest text : List ℕ) (first now : Console T O tm) (piece : List ℕ) (n : ℕ) → Gathered first now piece n → HasAnswered u o detection ended rest text first → HasAnswered u o detection ended (rest ++ take n piece) text now
+stands_gathered {T} {O} {tm} u o detection ended rest text first now piece n g h =
+    bytes_kept u o detection ended rest text (take n piece) first now h (ap (λ (b : Book T O tm). state b.tables) g.same_book) g.same_count g.kept
+
+-- the piece has ended: its bytes were read, and nothing was printed
+pub read_gathered : {T O : Type 0} {tm : _} (u : Relations) (o : Order) (detection : Detection) (input before text : List ℕ) (first now : Console T O tm) (piece : List ℕ) (n : ℕ) → Gathered first now piece n → text ≡ [] → HasRead u o detection input before first → HasRead u o detection (input ++ take n piece) (before ++ text) now
+read_gathered u o detection input before text first now piece n g none h = record {
+  ended = h.ended;
+  rest = h.rest ++ take n piece;
+  cut = cut_more input h.ended h.rest (take n piece) h.cut g.unbroken;
+  stands = subst (λ (t : List ℕ). HasAnswered u o detection h.ended (h.rest ++ take n piece) t now) (sym same) (stands_gathered u o detection h.ended h.rest before first now piece n g h.stands);
+}
+  where
+    same : before ++ text ≡ before
+    same = ap (λ (xs : List ℕ). before ++ xs) none ∙ append-nil before
+
+-- the line has ended: its bytes were read, and its answer was printed
+pub read_line : {T O : Type 0} {tm : _} (m : T → Relations) (p : O → Order) (detection : Detection) (input before text : List ℕ) (first now next : Console T O tm) (piece : List ℕ) (n : ℕ) → Gathered first now piece n → n < length piece → get_or piece n 0 ≡ 10 → AnswersLine m p now next text → HasRead (m first.book.policy.table) (p first.book.policy.order) detection input before first → HasRead (m first.book.policy.table) (p first.book.policy.order) detection (input ++ take (n + 1) piece) (before ++ text) next
+read_line {T} {O} {tm} m p detection input before text first now next piece n g inside ten answers h = record {
+  ended = more h.ended (h.rest ++ take n piece);
+  rest = [];
+  cut = subst (λ (xs : List ℕ). Cut xs (more h.ended (h.rest ++ take n piece)) []) joined_up (cut_end (input ++ take n piece) h.ended (h.rest ++ take n piece) (cut_more input h.ended h.rest (take n piece) h.cut g.unbroken));
+  stands = here detection h.ended (h.rest ++ take n piece) before (stands_gathered (m first.book.policy.table) (p first.book.policy.order) detection h.ended h.rest before first now piece n g h.stands);
+}
+  where
+    here : (detection : Detection) (ended : Lines) (rest before : List ℕ) → HasAnswered (m first.book.policy.table) (p first.book.policy.order) detection ended rest before now → HasAnswered (m first.book.policy.table) (p first.book.policy.order) detection (more ended rest) [] (before ++ text) next
+    here = subst (λ (k : Book T O tm). (detection : Detection) (ended : Lines) (rest before : List ℕ) → HasAnswered (m k.policy.table) (p k.policy.order) detection ended rest before now → HasAnswered (m k.policy.table) (p k.policy.order) detection (more ended rest) [] (before ++ text) next) g.same_book answers
+
+    longer : take (n + 1) piece ≡ take n piece ++ 10 ∷ []
+    longer = subst (λ (x : ℕ). take (n + 1) piece ≡ take n piece ++ x ∷ []) ten (take_more piece n 0 inside)
+
+    joined_up : (input ++ take n piece) ++ 10 ∷ [] ≡ input ++ take (n + 1) piece
+    joined_up = append_assoc input (take n piece) (10 ∷ []) ∙ ap (λ (xs : List ℕ). input ++ xs) (sym longer)
+
+-- the input has ended with a line that has begun
+pub ends_line : {T O : Type 0} {tm : _} (m : T → Relations) (p : O → Order) (text : List ℕ) (now next : Console T O tm) → 0 < length now.line → AnswersLine m p now next text → EndsLines m p now next text
+ends_line m p text now next some answers detection ended rest before h = rw (is_line rest begun) (answers detection ended rest before h)
+  where
+    begun : 0 < length rest
+    begun = omega (arith, some, ap length h.kept, length-take 33 rest)
+
+    is_line : (rest : List ℕ) → 0 < length rest → with_rest ended rest ≡ more ended rest
+    is_line [] none = absurd (let e : ⊥ = omega (arith, none) in e)
+    is_line (b ∷ bs) _ = refl
+
+-- the input has ended with no line that has begun
+pub ends_nothing : {T O : Type 0} {tm : _} (m : T → Relations) (p : O → Order) (text : List ℕ) (now : Console T O tm) → length now.line ≡ 0 → text ≡ [] → EndsLines m p now now text
+ends_nothing m p text now none silent detection ended rest before h = rw (silent, append-nil before, empty) (rw empty at h)
+  where
+    empty : rest ≡ []
+    empty = nil_from_length rest (omega (arith, none, ap length h.kept, length-take 33 rest))
+
+-- where the last line has ended, what was printed is the transcript of what was read
+pub finished : {T O : Type 0} {tm : _} (m : T → Relations) (p : O → Order) (text : List ℕ) (now next : Console T O tm) → EndsLines m p now next text → Finishes m p now text
+finished m p text now next ends detection input before h = record {
+  ended = h.ended;
+  rest = h.rest;
+  left = state next.book.tables;
+  cut = h.cut;
+  answered = (ends detection h.ended h.rest before h.stands).answered;
+}

@@ -1,0 +1,20 @@
+-- What the console's inner functions promise. `u` is the meaning of the use table, `o` that of the recall order.
+use Rattle.std.specs.Prelude.{◌≡◌, ℕ, ◌+◌, ◌≤◌, List, length, Result}
+use Rattle.uses.specs.Relations.{Relations}
+use Rattle.model.specs.State.{State}
+use Rattle.model.specs.Recalling.{Order}
+use Rattle.model.specs.Calls.{report_of}
+use Rattle.model.specs.declared.report.ReportEntry.{ReportEntry}
+use Rattle.model.specs.declared.report.Report.{Report}
+use Rattle.book.specs.declared.answers.Answer.{Answer}
+use Rattle.protocol.specs.Words.{reply_to}
+use Rattle.protocol.specs.declared.fault.Fault.{Fault}
+use Rattle.session.specs.Transcript.{Gives}
+
+-- the outcome, the whole report and the state left are what the line of the number gives
+pub record Responded (u : Relations) (o : Order) (number : ℕ) (s : State) (line : List ℕ) (outcome : Result Answer Fault) (r : Report) (t : State) : Type 0 where
+  pub recalls : List ReportEntry
+  pub wakes : List ReportEntry
+  pub reported : r ≡ report_of recalls wakes
+  pub fits : length recalls + length wakes ≤ 64
+  pub gives : Gives u o number s line (reply_to outcome) recalls wakes t
