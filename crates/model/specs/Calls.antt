@@ -6,6 +6,7 @@ use Rattle.model.specs.Claims.{dispatch_waits, is_covered}
 use Rattle.model.specs.State.{State, numbers, is_open, is_free, state_without, state_with_claim}
 use Rattle.model.specs.Recalling.{Order, entry_of, Recalled, nobody, recall_result}
 use Rattle.model.specs.declared.call.Call.{Call}
+use Rattle.model.specs.declared.limits.TheConstants.{DISPATCHES, SECTIONS, CLAIMS, HEAVIEST}
 use Rattle.model.specs.declared.call.Call.TheVariants as call
 use Rattle.model.specs.declared.report.ReportEntry.{ReportEntry}
 use Rattle.model.specs.declared.report.Report.{Report}
@@ -27,11 +28,11 @@ Check = Bool × ℕ
 
 -- 1: the dispatch number is above 63
 abbrev pub number_too_high : ℕ → Check
-number_too_high d = (nat_lt 63 d, 1)
+number_too_high d = (nat_le DISPATCHES d, 1)
 
 -- 2: the section is above 1023
 abbrev pub section_too_high : ℕ → Check
-section_too_high section = (nat_lt 1023 section, 2)
+section_too_high section = (nat_le SECTIONS section, 2)
 
 -- 3: the use is unknown
 abbrev pub unknown_use : Relations → ℕ → Check
@@ -39,7 +40,7 @@ unknown_use u mode = (not (u.known mode), 3)
 
 -- 4: the weight is above 1000
 abbrev pub weight_too_high : ℕ → Check
-weight_too_high weight = (nat_lt 1000 weight, 4)
+weight_too_high weight = (nat_lt HEAVIEST weight, 4)
 
 -- 5: the dispatch is recalled
 abbrev pub recalled_already : State → ℕ → Check
@@ -59,21 +60,45 @@ waiting_already u s d = (dispatch_waits u s.claims d, 8)
 
 -- 9: 512 claims stand and the new one is not covered
 abbrev pub no_room : Relations → State → ℕ → ℕ → ℕ → Check
-no_room u s d section mode = (nat_le 512 (length s.claims) && not (is_covered u s.claims d section mode), 9)
+no_room u s d section mode = (nat_le CLAIMS (length s.claims) && not (is_covered u s.claims d section mode), 9)
 
 -- 10: the dispatch is not recalled
 abbrev pub not_recalled : State → ℕ → Check
 not_recalled s d = (not (s.recalled d), 10)
 
--- the checks of each call, in the order of their numbers
+-- the checks of an opening, in the order of their numbers, as below
+abbrev pub open_checks : State → ℕ → ℕ → List Check
+open_checks s d weight = number_too_high d ∷ weight_too_high weight ∷ recalled_already s d ∷ open_already s d ∷ []
+
+-- the checks of a claim but the last, which is for room
+abbrev pub entry_checks : Relations → State → ℕ → ℕ → ℕ → List Check
+entry_checks u s d section mode =
+    number_too_high d ∷ section_too_high section ∷ unknown_use u mode ∷ recalled_already s d ∷ free_already s d
+    ∷ waiting_already u s d ∷ []
+
+-- the checks of a claim
+abbrev pub claim_checks : Relations → State → ℕ → ℕ → ℕ → List Check
+claim_checks u s d section mode = entry_checks u s d section mode ++ no_room u s d section mode ∷ []
+
+-- the checks of a close
+abbrev pub close_checks : Relations → State → ℕ → List Check
+close_checks u s d = number_too_high d ∷ recalled_already s d ∷ free_already s d ∷ waiting_already u s d ∷ []
+
+-- the checks of a withdrawal
+abbrev pub withdraw_checks : State → ℕ → List Check
+withdraw_checks s d = number_too_high d ∷ recalled_already s d ∷ free_already s d ∷ []
+
+-- the checks of an acknowledgement
+abbrev pub acknowledge_checks : State → ℕ → List Check
+acknowledge_checks s d = number_too_high d ∷ not_recalled s d ∷ []
+
+-- the checks of each call; a sweep has none
 abbrev pub checks : Relations → State → Call → List Check
-checks u s (call.Open d weight) = number_too_high d ∷ weight_too_high weight ∷ recalled_already s d ∷ open_already s d ∷ []
-checks u s (call.Claim d section mode) =
-    number_too_high d ∷ section_too_high section ∷ unknown_use u mode ∷ recalled_already s d ∷ free_already s d ∷ waiting_already u s d
-    ∷ no_room u s d section mode ∷ []
-checks u s (call.Close d) = number_too_high d ∷ recalled_already s d ∷ free_already s d ∷ waiting_already u s d ∷ []
-checks u s (call.Withdraw d) = number_too_high d ∷ recalled_already s d ∷ free_already s d ∷ []
-checks u s (call.Acknowledge d) = number_too_high d ∷ not_recalled s d ∷ []
+checks u s (call.Open d weight) = open_checks s d weight
+checks u s (call.Claim d section mode) = claim_checks u s d section mode
+checks u s (call.Close d) = close_checks u s d
+checks u s (call.Withdraw d) = withdraw_checks s d
+checks u s (call.Acknowledge d) = acknowledge_checks s d
 checks u s call.Sweep = []
 
 -- the number of the first check that applies

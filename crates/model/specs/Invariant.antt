@@ -6,17 +6,18 @@ use Rattle.model.specs.Search.{is_distinct}
 use Rattle.model.specs.Graph.{OnCycle}
 use Rattle.model.specs.Claims.{waits_for, waiting_claims}
 use Rattle.model.specs.State.{State, numbers, is_open}
+use Rattle.model.specs.declared.limits.TheConstants.{DISPATCHES, SECTIONS, CLAIMS, HEAVIEST}
 use Rattle.model.specs.declared.state.Claim.{Claim}
 use Rattle.model.specs.declared.state.OpenEntry.{OpenEntry}
 use Rattle.model.specs.declared.state.Detection.TheVariants.{Continuous}
 
 -- an open entry in range
 abbrev pub entry_in_range : OpenEntry → Bool
-entry_in_range e = nat_lt e.dispatch 64 && nat_le e.weight 1000
+entry_in_range e = nat_lt e.dispatch DISPATCHES && nat_le e.weight HEAVIEST
 
 -- a claim in range: its dispatch is open, its section is at most 1023, its use is known
 abbrev pub claim_in_range : Relations → State → Claim → Bool
-claim_in_range u s c = is_open s c.dispatch && (nat_le c.section 1023 && u.known c.mode)
+claim_in_range u s c = is_open s c.dispatch && (nat_lt c.section SECTIONS && u.known c.mode)
 
 -- what every call keeps, and every recall within a call
 pub record WellFormed (u : Relations) (s : State) : Type 0 where
@@ -25,13 +26,13 @@ pub record WellFormed (u : Relations) (s : State) : Type 0 where
   -- open numbers are below 64, weights at most 1000
   pub entries : list_all entry_in_range s.opened ≡ true
   -- recalled numbers are below 64
-  pub recalled_below : (d : ℕ) → s.recalled d ≡ true → d < 64
+  pub recalled_below : (d : ℕ) → s.recalled d ≡ true → d < DISPATCHES
   -- nobody is open and recalled
   pub disjoint : (d : ℕ) → s.recalled d ≡ true → is_open s d ≡ false
   -- claims are in range
   pub claims_in_range : list_all (claim_in_range u s) s.claims ≡ true
   -- at most 512 claims stand
-  pub few_claims : length s.claims ≤ 512
+  pub few_claims : length s.claims ≤ CLAIMS
   -- at most one claim of a dispatch waits
   pub one_waits : (d : ℕ) → waiting_claims u s.claims d ≤ 1
 

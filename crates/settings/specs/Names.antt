@@ -32,5 +32,5 @@ detection_name Continuous = codes "continuous"
 detection_name Periodic = codes "periodic"
 
 -- what a word names: a thing is the answer exactly when the word is its name, so a word that is no name has none
-abbrev pub ReportEntry : {X : Type 0} → (X → List ℕ) → List ℕ → Option X → Type 0
-ReportEntry {X} name word r = (x : X) → (r ≡ Some x → word ≡ name x) × (word ≡ name x → r ≡ Some x)
+abbrev pub IsNameOf : {X : Type 0} → (X → List ℕ) → List ℕ → Option X → Type 0
+IsNameOf {X} name word r = (x : X) → (r ≡ Some x → word ≡ name x) × (word ≡ name x → r ≡ Some x)

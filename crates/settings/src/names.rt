@@ -1,7 +1,7 @@
 // The names of tables, orders and detections.
 ghost use Rattle.std.specs.Prelude.{Some, codes};
 ghost use Rattle.std.specs.Result.{result_ok};
-ghost use Rattle.settings.specs.Names.{ReportEntry, table_name, order_name, chosen_name, detection_name};
+ghost use Rattle.settings.specs.Names.{IsNameOf, table_name, order_name, chosen_name, detection_name};
 
 use crate::any_order::{AnyOrder, ChosenOrder};
 use crate::any_table::AnyTable;
@@ -31,7 +31,7 @@ impl Error for UnknownName {}
 impl FromStr for AnyTable {
     type Err = UnknownName;
 
-    ghost from_str_gives = { λ word r. ReportEntry table_name word (result_ok r) };
+    ghost from_str_gives = { λ word r. IsNameOf table_name word (result_ok r) };
 
     fn from_str(word: &str) -> Result<Self, UnknownName> {
         match word {
@@ -46,7 +46,7 @@ impl FromStr for AnyTable {
 impl FromStr for AnyOrder {
     type Err = UnknownName;
 
-    ghost from_str_gives = { λ word r. ReportEntry order_name word (result_ok r) };
+    ghost from_str_gives = { λ word r. IsNameOf order_name word (result_ok r) };
 
     fn from_str(word: &str) -> Result<Self, UnknownName> {
         match word {
@@ -62,7 +62,7 @@ impl FromStr for AnyOrder {
 impl FromStr for ChosenOrder {
     type Err = UnknownName;
 
-    ghost from_str_gives = { λ word r. ReportEntry chosen_name word (result_ok r) };
+    ghost from_str_gives = { λ word r. IsNameOf chosen_name word (result_ok r) };
 
     fn from_str(word: &str) -> Result<Self, UnknownName> {
         let Some((first, second)) = word.split_once(',') else {
@@ -79,7 +79,7 @@ impl FromStr for ChosenOrder {
 // Kept: a function, since `Detection` and `FromStr` are both of other crates, so no impl may stand
 // here, and the model knows no words.
 pub fn detection_named(word: &str) -> Option<Detection>
-    ensures { ReportEntry detection_name word.now result }
+    ensures { IsNameOf detection_name word.now result }
 {
     match word {
         "continuous" => Some(Detection::Continuous),
