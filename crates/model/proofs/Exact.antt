@@ -86,7 +86,7 @@ module _ (u : Relations) (o : Order) (lawful : OrderLaws o) (s : State) (w : Wel
         inside = some.1;
         unbeaten = λ e k. not-true (strictly_before u o s e d) (all_pass_member (λ y. not (strictly_before u o s y d)) e ds some.0 k);
         newest =
-            λ e k best. (last_newest (λ x. among x && unbeaten u o s ds x) s.opened d e w.distinct (sym (ap last (kept_kept among (unbeaten u o s ds) ns)) ∙ h)
+            λ e k best. (last_newest (λ x. among x && unbeaten u o s ds x) s.opened d e w.consistent.distinct (sym (ap last (kept_kept among (unbeaten u o s ds) ns)) ∙ h)
             ).1 (of_the_set e k).1
             (and_from (among e) (unbeaten u o s ds e) (of_the_set e k).0 (all_pass_from (λ y. not (strictly_before u o s y e)) ds (λ y m. not_from_false (strictly_before u o s y e) (best y m))));
       }

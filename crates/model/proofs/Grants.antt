@@ -8,7 +8,7 @@ use Rattle.model.specs.Claims.{in_line, of, waits, dispatch_waits, is_covered, c
 use Rattle.model.specs.State.{State, numbers, is_open, state_without, state_with_claim, recall}
 use Rattle.model.specs.Recalling.{Order, entry_of, recall_result}
 use Rattle.model.specs.Calls.{answer_granted, answer_covered, checks, refusal, Effect, after_entry, accepted, woken, step}
-use Rattle.model.specs.Invariant.{claim_in_range, WellFormed, Invariant}
+use Rattle.model.specs.Invariant.{WellFormed, Invariant}
 use Rattle.model.specs.Runs.{Run, start, next, at, names, Grants, by_grant, by_cover, by_wake, Granted, just_now, before}
 use Rattle.model.specs.Law.{IsEntered, Exclusion}
 use Rattle.model.specs.declared.call.Call.{Call}
@@ -147,7 +147,7 @@ module _ (u : Relations) (laws : UseLaws u) (o : Order) (lawful : OrderLaws o) (
   waiting_covers : (d section mode : ℕ) → claim_waits u s.claims d section mode ≡ true → u.cover mode mode ≡ true
   waiting_covers d section mode h =
       let there = any_wider (λ p. of d p.claim && (eqb p.claim.section section && (eqb p.claim.mode mode && waits u p))) (λ p. eqb p.claim.mode mode) (λ p k. grind (arith, k)) (in_line s.claims) h in
-      let found = any_passes (claim_in_range u s) (λ c. eqb c.mode mode) s.claims w.claims_in_range (sym (any_claims (λ c. eqb c.mode mode) [] s.claims) ∙ there) in
+      let found = any_passes (λ c. u.known c.mode) (λ c. eqb c.mode mode) s.claims w.uses_known (sym (any_claims (λ c. eqb c.mode mode) [] s.claims) ∙ there) in
       laws.reflexive mode (grind (arith, nat_tests, found.1, found.2))
 
   -- whoever is named as woken is backed for the claim that waited

@@ -3,6 +3,7 @@ use Rattle.std.proofs.Common.{◌≡◌, ◌<◌, ◌≤◌, true, ◌⊎◌, Li
 use Rattle.std.specs.List.{list_all, AllByRecursion}
 use Rattle.std.proofs.lemmas.Bool.Decides.{nat_tests}
 use Rattle.std.proofs.lemmas.Bool.{cases_Bool, both_ways}
+use Rattle.std.proofs.lemmas.List.{length-map}
 use Rattle.uses.specs.Relations.{Relations, UseLaws}
 use Rattle.orders.specs.Laws.{OrderLaws}
 use Rattle.model.specs.Claims.{waits_for, dispatch_waits}
@@ -21,18 +22,14 @@ use Rattle.model.specs.declared.state.OpenEntry.{OpenEntry}
 use Rattle.model.proofs.Graphs.{at_most, chain_short, end_member}
 use Rattle.model.proofs.ClaimLists.{waits_waits_for}
 use Rattle.model.proofs.Recalls.{some_after, steps_open, recalls_clear, recalls_some, recalls_cycle, Right, recalls_right}
-use Rattle.model.proofs.Keeps.{grounded}
+use Rattle.model.proofs.Keeps.{grounded, consistent_few}
 use Rattle.model.proofs.Steps.{Looked, looks, looks_not, looks_or_recalls_nobody, step_detection, step_invariant}
 use Rattle.model.proofs.Grants.{run_invariant, exclusion}
-
-numbers_below : (es : List OpenEntry) → list_all entry_in_range es ≡ true → AllByRecursion (λ n. n < 64) (numbers es)
-numbers_below [] h = tt
-numbers_below (e ∷ es) h = (grind (arith, nat_tests, h), numbers_below es (grind (arith, h)))
 
 module _ (u : Relations) (s : State) (w : WellFormed u s) where
   -- at most 64 dispatches are open
   pub few_open : length (numbers s.opened) ≤ 64
-  few_open = at_most 64 (numbers s.opened) w.distinct (numbers_below s.opened w.entries)
+  few_open = omega (arith, consistent_few s w.consistent, length-map s.opened (λ e. e.dispatch))
 
   -- where no cycle stands, waits end
   pub waits_end : NoCycle u s → WaitsEnd u s

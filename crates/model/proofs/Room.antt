@@ -30,4 +30,4 @@ pub refused_when_full : RefusedWhenFull
 unfolding step
 refused_when_full u o s i d section mode e =
     let found = nine_applies u o s d section mode (refusal (checks u s (Claim d section mode))) e in
-    grind (arith, nat_tests, found, i.well_formed.few_claims)
+    grind (arith, nat_tests, found, i.well_formed.consistent.few_claims)

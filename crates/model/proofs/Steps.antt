@@ -40,13 +40,15 @@ claim_cases u o s d section mode =
 
 -- what a claim that is not refused has passed
 pub record PassedClaim (u : Relations) (s : State) (d section mode : ℕ) : Type 0 where
-  pub right : claim_in_range u s (asked d section mode) ≡ true
+  pub right : claim_in_range s (asked d section mode) ≡ true
+  pub known : u.known mode ≡ true
   pub runs : dispatch_waits u s.claims d ≡ false
   pub room : is_covered u s.claims d section mode ≡ false → length s.claims < 512
 
 pub passed_claim : (u : Relations) (s : State) (d section mode : ℕ) → refusal (checks u s (call.Claim d section mode)) ≡ None → PassedClaim u s d section mode
 passed_claim u s d section mode h = record {
   right = grind (arith, nat_tests);
+  known = grind (arith, nat_tests);
   runs = grind (arith, nat_tests);
   room = λ k. grind (arith, nat_tests);
 }
@@ -93,7 +95,7 @@ refused_enters call.Sweep n e = e
 module _ (u : Relations) (o : Order) (lawful : OrderLaws o) (s : State) (w : WellFormed u s) where
   -- the state with the claim entered is well formed
   pub entry_kept : (d section mode : ℕ) → PassedClaim u s d section mode → is_covered u s.claims d section mode ≡ false → WellFormed u (state_with_claim (asked d section mode) s)
-  entry_kept d section mode passed new = entered_kept u s w (asked d section mode) passed.right passed.runs (passed.room new)
+  entry_kept d section mode passed new = entered_kept u s w (asked d section mode) passed.right passed.known passed.runs (passed.room new)
 
   -- a claim that is entered looks for cycles in a continuous book
   looked_after_entry : (d section mode : ℕ) → WellFormed u (state_with_claim (asked d section mode) s) → (detection : Detection) → s.detection ≡ detection → Looked u o s (call.Claim d section mode) (claimed u d (after_entry u o detection (state_with_claim (asked d section mode) s)))

@@ -30,7 +30,7 @@ returns-in_err-end g c =
       ended = ended_as u s d small k is (Err e) (refused_free u s d small o r t k is e made);
       done = both.0;
       law = both.1;
-      freed = free_after u s d small o r t k is (b.kept.well_formed.disjoint d) (Err e) made;
+      freed = free_after u s d small o r t k is (b.kept.well_formed.consistent.disjoint d) (Err e) made;
     })
 
 pub returns : goal.returns
@@ -52,5 +52,5 @@ returns g c =
       ended = ended_as u s d small k is y c.ending_of.ensures;
       done = both.0;
       law = both.1;
-      freed = free_after u s d small o r t k is (b.kept.well_formed.disjoint d) (booked y) made;
+      freed = free_after u s d small o r t k is (b.kept.well_formed.consistent.disjoint d) (booked y) made;
     }
