@@ -1,1 +1,3 @@
-pub mod PlacedClaims
+pub mod InLineLemmas
+pub mod RowsLemmas
+pub mod Closing

@@ -1,40 +1,56 @@
-// The claim table (a lock table): the claims of a book, in order of arrival. The contracts speak of
-// it as the list of its claims.
-ghost use Rattle.std.specs.Prelude.{◌≡◌, ◌<◌, ◌≤◌, [], ◌∷◌, ◌++◌, length};
+// The claim table (a lock table). The contracts speak of it as the list of its claims.
+ghost use Rattle.std.specs.Prelude.{◌≡◌, ◌<◌, ◌≤◌, ℕ, [], ◌∷◌, ◌++◌, length, ◌↔◌, IsTrue, nat_le};
 ghost use Rattle.dispatch_set.specs.DispatchSet.{contains};
-ghost use Rattle.model.specs.Claims.{without, is_covered, blocks, waiting_section, held_count as held_claims, waits_for, holds, in_line};
+ghost use Rattle.model.specs.Claims.{without, is_covered, blocks, waiting_section, held_count as held_count_of, waits_for, holds, in_line};
+ghost use Rattle.model.specs.Graph.{OnCycle};
 ghost use Rattle.model.specs.Search.{any};
+ghost use Rattle.claims.specs.ClaimTable.{AreWaitingSections, or_waiting_section};
+ghost use Rattle.claims.specs.Rows.{relation};
 
 use crate::blocking;
-use crate::places::Places;
+use crate::cycles;
+use crate::cycles::Rows;
+use crate::in_line::{InLine, Line};
 use dispatch_set::DispatchSet;
 use fixed_list::FixedList;
+use model::limits::{CLAIMS, DISPATCHES};
 use model::state::Claim;
 use std::marker::Model;
 use uses::table::UseTable;
 
-// At most 512 claims, each of a dispatch below 64.
-// Kept: the use table is lent to each question. With it inside, `enter` and `take_out` would have
-// to say that it stays.
+/// The claims of a book, in order of arrival: at most 512, each of a dispatch number. The use table is
+/// lent to each question that needs it.
 #[derive(Drop)]
 pub struct ClaimTable {
-    list: FixedList<Claim, 512>,
+    list: FixedList<Claim, CLAIMS>,
 }
 
 impl Model for ClaimTable {
     ghost use Rattle.std.specs.Prelude.{◌<◌, ◌≤◌, List, length};
     ghost use Rattle.std.specs.List.{All};
+    ghost use Rattle.model.specs.declared.limits.TheConstants.{CLAIMS, DISPATCHES};
     ghost use Rattle.model.specs.declared.state.Claim.{Claim};
 
     ghost Value = { List Claim };
 
     ghost view = { λ t. t.list };
 
-    ghost invariant = { λ t. (length t.list ≤ 512) × All (λ c. c.dispatch < 64) t.list };
+    ghost invariant = { λ t. (length t.list ≤ CLAIMS) × All (λ c. c.dispatch < DISPATCHES) t.list };
+}
+
+// The section of the claim for which a dispatch waits: the one that was found, or else the claim's,
+// if it waits.
+fn or_waiting<T: UseTable>(found: Option<u16>, c: &InLine, table: &T) -> Option<u16>
+    ensures { result ≡ or_waiting_section (T.meaning table.now) found c.now }
+{
+    if found.is_none() && c.waits(table) {
+        return Some(c.claim.section);
+    }
+    found
 }
 
 impl ClaimTable {
-    // No claims.
+    /// No claims.
     pub fn new() -> ClaimTable
         ensures { result ≡ [] }
     {
@@ -48,30 +64,44 @@ impl ClaimTable {
         }
     }
 
-    // How many claims there are.
+    /// How many claims there are.
     pub fn len(&self) -> usize
         ensures { result ≡ length self.now }
     {
         self.list.len()
     }
 
-    // Enters a claim behind the others.
+    /// Do as many claims stand as there is room for?
+    pub fn is_full(&self) -> bool
+        ensures { result ≡ nat_le CLAIMS (length self.now) }
+    {
+        self.len() >= CLAIMS
+    }
+
+    /// The claims, in order.
+    pub fn rows(&self) -> &[Claim]
+        ensures { result.now ≡ self.now }
+    {
+        self.list.rows()
+    }
+
+    /// Enters a claim behind the others.
     pub fn enter(&mut self, c: Claim)
-        requires small { c.dispatch < 64 }
-        requires room { length self.old < 512 }
+        requires small { c.dispatch < DISPATCHES }
+        requires room { length self.old < CLAIMS }
         ensures { self.new ≡ self.old ++ c ∷ [] }
     {
         self.list.push(c);
     }
 
-    // Takes the dispatch's claims out (releases its locks).
+    /// Takes the dispatch's claims out (releases its locks).
     pub fn take_out(&mut self, d: u8)
         ensures { self.new ≡ without d self.old }
     {
         self.list.retain(|c| c.dispatch != d);
     }
 
-    // Does some claim of the dispatch on the section cover the use?
+    /// Does some claim of the dispatch on the section cover the use?
     pub fn is_covered<T: UseTable>(&self, table: &T, d: u8, section: u16, mode: u32) -> bool
         ensures { result ≡ is_covered (T.meaning table.now) self.now d section mode }
     {
@@ -80,63 +110,94 @@ impl ClaimTable {
         })
     }
 
-    // Does some claim block the claim, which would stand behind all others?
+    /// Does some claim block the claim, which would stand behind all others?
     pub fn is_blocked<T: UseTable>(&self, table: &T, c: Claim) -> bool
         ensures { result ≡ any (λ b. blocks (T.meaning table.now) b c) self.now }
     {
         blocking::is_blocked(table, self.list.rows(), &c)
     }
 
-    // The section of the claim for which the dispatch waits.
+    /// The section of the claim for which the dispatch waits.
     pub fn waiting_section<T: UseTable>(&self, table: &T, d: u8) -> Option<u16>
         ensures { result ≡ waiting_section (T.meaning table.now) self.now d }
     {
-        self.places()
-            .find(|p| p.claim.dispatch == d && p.waits(table))
-            .map(|p| p.claim.section)
+        self.in_line()
+            .find(|c| c.claim.dispatch == d && c.waits(table))
+            .map(|c| c.claim.section)
     }
 
-    // How many claims of the dispatch are held (granted).
-    pub fn held<T: UseTable>(&self, table: &T, d: u8) -> u32
-        ensures { result ≡ held_claims (T.meaning table.now) self.now d }
+    /// For each dispatch number, the section of the claim for which the dispatch waits, if it waits.
+    pub fn waiting_sections<T: UseTable>(&self, table: &T) -> [Option<u16>; DISPATCHES]
+        ensures { AreWaitingSections (T.meaning table.now) self.now result }
     {
-        self.places()
-            .filter(|p| p.claim.dispatch == d && !p.waits(table))
+        let mut sections = [None; DISPATCHES];
+        for c in self.in_line() {
+            let d = c.claim.dispatch as usize;
+            sections[d] = or_waiting(sections[d], &c, table);
+        }
+        sections
+    }
+
+    /// How many claims of the dispatch are held (granted).
+    pub fn held_count<T: UseTable>(&self, table: &T, d: u8) -> u32
+        ensures { result ≡ held_count_of (T.meaning table.now) self.now d }
+    {
+        self.in_line()
+            .filter(|c| c.claim.dispatch == d && !c.waits(table))
             .count() as u32
     }
 
-    // The dispatches for which the dispatch waits (its successors in the waits-for graph).
-    pub fn waits_for<T: UseTable>(&self, table: &T, d: u8) -> DispatchSet
+    /// The dispatches for which the dispatch waits (its successors in the waits-for graph).
+    pub fn blockers<T: UseTable>(&self, table: &T, d: u8) -> DispatchSet
         ensures { contains result ≡ waits_for (T.meaning table.now) self.now d }
     {
         let mut found = DispatchSet::none();
-        for p in self.places() {
-            if p.claim.dispatch == d {
-                found = found.union(p.blockers(table));
+        for c in self.in_line() {
+            if c.claim.dispatch == d {
+                found = found.union(c.blockers(table));
             }
         }
         found
     }
 
-    // The dispatches that hold a claim on the section.
+    /// The dispatches that hold a claim on the section.
     pub fn holders<T: UseTable>(&self, table: &T, section: u16) -> DispatchSet
         ensures { contains result ≡ holds (T.meaning table.now) self.now section }
     {
         let mut found = DispatchSet::none();
-        for p in self.places() {
-            if p.claim.section == section && !p.waits(table) {
-                found.insert(p.claim.dispatch);
+        for c in self.in_line() {
+            if c.claim.section == section && !c.waits(table) {
+                found.insert(c.claim.dispatch);
             }
         }
         found
     }
 
-    // The claims in their places, in order.
-    fn places(&self) -> Places<'_>
-        ensures value { result ≡ in_line self.now }
-        ensures fits { length result ≤ 512 }
+    /// The dispatches that are on a cycle of waits.
+    pub fn on_cycles<T: UseTable>(&self, table: &T) -> DispatchSet
+        ensures { (d : ℕ) → IsTrue (contains result d) ↔ OnCycle (waits_for (T.meaning table.now) self.now) d }
     {
-        Places {
+        cycles::on_cycles(self.waits_for_rows(table))
+    }
+
+    // The waits-for graph: a row for each dispatch number.
+    fn waits_for_rows<T: UseTable>(&self, table: &T) -> Rows
+        ensures { relation result ≡ waits_for (T.meaning table.now) self.now }
+    {
+        let mut rows = [DispatchSet::none(); DISPATCHES];
+        for c in self.in_line() {
+            let d = c.claim.dispatch as usize;
+            rows[d] = rows[d].union(c.blockers(table));
+        }
+        rows
+    }
+
+    // The claims in line, in order.
+    fn in_line(&self) -> Line<'_>
+        ensures value { result ≡ in_line self.now }
+        ensures fits { length result ≤ CLAIMS }
+    {
+        Line {
             claims: self.list.rows(),
             next: 0,
         }

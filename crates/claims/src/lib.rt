@@ -1,6 +1,7 @@
 #![tactic(auto)]
 
-// The claim list of a book, in fixed memory.
+// The claim table (a lock table), and all that is read off the claims.
 mod blocking;
 pub mod claim_table;
-mod places;
+mod cycles;
+mod in_line;

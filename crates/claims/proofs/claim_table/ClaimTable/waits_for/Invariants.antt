@@ -1,9 +1,0 @@
-use Rattle.std.proofs.Common.{◌≡◌, ℕ, ◌&&◌, ◌||◌}
-use Rattle.dispatch_set.specs.DispatchSet.{contains}
-use Rattle.model.specs.Claims.{of, blocks, waits_for}
-use Rattle.model.specs.Search.{any}
-use Rattle.claims.proofs.claim_table.ClaimTable.waits_for.Given as goal
-
-abbrev pub invariant-loop-p : goal.invariant-loop-p
-invariant-loop-p g l =
-    (e : ℕ) → (contains l.found e || any (λ p. of l.d p.claim && any (λ b. of e b && blocks (g.T.UseTable.meaning l.table) b p.claim) p.earlier) l.p-iterator) ≡ waits_for (g.T.UseTable.meaning l.table) l.self l.d e
