@@ -1,8 +1,3 @@
-pub mod Said
-pub mod Held
-pub mod Better
-pub mod Before
-pub mod Entered
-pub mod Verdict
-pub mod Carried
-pub mod Asked
+pub mod Answer
+pub mod Tables
+pub mod Book

@@ -1,5 +1,5 @@
 -- Claims in line.
-use Rattle.std.proofs.Common.{ℕ, ◌<◌, cond, get_or, is_some, None, Option, replicate, ◌||◌, sym, ◌∙◌, ◌≡◌, suc, List, [], ◌∷◌, ◌++◌, length, refl, ap}
+use Rattle.std.proofs.Common.{ℕ, ◌<◌, cond, get_or, is_some, None, Option, replicate, ◌≡◌, suc, List, [], ◌∷◌, ◌++◌, length, refl, ap}
 use Rattle.std.proofs.lemmas.List.{get_or-replicate}
 use Rattle.model.specs.Claims.{in_line_behind}
 use Rattle.model.specs.declared.state.Claim.{Claim}

@@ -1,7 +1,7 @@
 // The claim table (a lock table). The contracts speak of it as the list of its claims.
 ghost use Rattle.std.specs.Prelude.{◌≡◌, ◌<◌, ◌≤◌, ℕ, [], ◌∷◌, ◌++◌, length, ◌↔◌, IsTrue, nat_le};
 ghost use Rattle.dispatch_set.specs.DispatchSet.{contains};
-ghost use Rattle.model.specs.Claims.{without, is_covered, blocks, waiting_section, held_count as held_count_of, waits_for, holds, in_line};
+ghost use Rattle.model.specs.Claims.{without, is_covered, blocks, dispatch_waits, waiting_section, held_count as held_count_of, waits_for, holds, in_line};
 ghost use Rattle.model.specs.Graph.{OnCycle};
 ghost use Rattle.model.specs.Search.{any};
 ghost use Rattle.claims.specs.ClaimTable.{AreWaitingSections, or_waiting_section};
@@ -115,6 +115,14 @@ impl ClaimTable {
         ensures { result ≡ any (λ b. blocks (T.meaning table.now) b c) self.now }
     {
         blocking::is_blocked(table, self.list.rows(), &c)
+    }
+
+    /// Does some claim of the dispatch wait?
+    pub fn waits<T: UseTable>(&self, table: &T, d: u8) -> bool
+        ensures { result ≡ dispatch_waits (T.meaning table.now) self.now d }
+    {
+        self.in_line()
+            .any(|c| c.claim.dispatch == d && c.waits(table))
     }
 
     /// The section of the claim for which the dispatch waits.

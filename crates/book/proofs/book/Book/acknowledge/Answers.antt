@@ -2,9 +2,9 @@ use Rattle.std.proofs.Common.{ℕ, Ok, refl, ap, ◌∙◌}
 use Rattle.model.specs.Calls.{without_recalled}
 use Rattle.model.specs.declared.call.Call.TheVariants as call
 use Rattle.model.proofs.Wakes.{woken_same}
-use Rattle.book.specs.Held.{state}
-use Rattle.book.specs.declared.answers.Answer.TheVariants as answer
-use Rattle.book.proofs.Carrying.{carried_plain, kept, CarriedOutIn, done_refused}
+use Rattle.book.specs.Tables.{state}
+use Rattle.book.specs.declared.answer.Answer.TheVariants as answer
+use Rattle.book.proofs.CallLemmas.{carried_plain, kept, CarriedOutIn, done_refused}
 use Rattle.book.proofs.book.Book.acknowledge.Given as given
 use Rattle.book.proofs.book.Book.acknowledge.Goals as goal
 use Rattle.book.proofs.book.Book.acknowledge.Goals.{After-acknowledge}

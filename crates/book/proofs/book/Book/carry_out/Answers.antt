@@ -1,4 +1,4 @@
-use Rattle.book.proofs.GoesOn.{asked_made}
+use Rattle.book.proofs.RunLemmas.{asked_made}
 use Rattle.book.proofs.book.Book.carry_out.Goals as goal
 
 pub returns-in-Open : goal.returns-in-Open

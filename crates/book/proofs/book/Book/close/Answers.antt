@@ -1,8 +1,8 @@
 use Rattle.std.proofs.Common.{Ok, refl}
 use Rattle.model.specs.declared.call.Call.TheVariants as call
-use Rattle.book.specs.Held.{state}
-use Rattle.book.specs.declared.answers.Answer.TheVariants as answer
-use Rattle.book.proofs.Carrying.{carried_end, kept, CarriedOutIn, done_refused}
+use Rattle.book.specs.Tables.{state}
+use Rattle.book.specs.declared.answer.Answer.TheVariants as answer
+use Rattle.book.proofs.CallLemmas.{carried_end, kept, CarriedOutIn, done_refused}
 use Rattle.book.proofs.book.Book.close.Given as given
 use Rattle.book.proofs.book.Book.close.Goals as goal
 use Rattle.book.proofs.book.Book.close.Goals.{After-end}
@@ -12,11 +12,11 @@ returns-in_err-number g c =
     done_refused g.T.UseTable.meaning g.O.RecallOrder.meaning c.args.self.now (call.Close c.args.dispatch) _ c.from_residual.result c.in_err-number.field-0.0 c.empty.result c.from_residual.ensures.1 c.in_err-number.ensures c.empty.ensures refl refl
 
 -- the dispatch is ended
-carried : (g : given.Over) (c : After-end g) → CarriedOutIn g.T.UseTable.meaning g.O.RecallOrder.meaning c.args.self.now (call.Close c.args.dispatch) (Ok answer.Ok) c.end.result (state c.end.new.self)
+carried : (g : given.Over) (c : After-end g) → CarriedOutIn g.T.UseTable.meaning g.O.RecallOrder.meaning c.args.self.now (call.Close c.args.dispatch) (Ok answer.Ok) c.end.new.report (state c.end.new.tables)
 carried g c =
     let b = c.args.self.now in
     let passed = c.in_ok-number.ensures in
-    carried_end (g.T.UseTable.meaning b.policy.table) (g.O.RecallOrder.meaning b.policy.order) (state b.tables) (call.Close c.args.dispatch) c.args.dispatch c.in_ok-number.number c.end.result (state c.end.new.self) passed.0 refl passed.1 c.end.ensures.named c.end.ensures.after
+    carried_end (g.T.UseTable.meaning b.policy.table) (g.O.RecallOrder.meaning b.policy.order) (state b.tables) (call.Close c.args.dispatch) c.args.dispatch c.in_ok-number.number c.end.new.report (state c.end.new.tables) passed.0 refl passed.1 c.end.ensures.named c.end.ensures.after
 
 pub invariant_of-self-2 : goal.invariant_of-self-2
 invariant_of-self-2 g c =

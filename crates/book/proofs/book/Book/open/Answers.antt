@@ -4,9 +4,9 @@ use Rattle.model.specs.declared.call.Call.TheVariants as call
 use Rattle.model.specs.declared.state.OpenEntry.{OpenEntry}
 use Rattle.model.proofs.Steps.{passed_opening}
 use Rattle.model.proofs.Wakes.{woken_same}
-use Rattle.book.specs.Held.{state}
-use Rattle.book.specs.declared.answers.Answer.TheVariants as answer
-use Rattle.book.proofs.Carrying.{carried_plain, kept, CarriedOutIn, done_refused}
+use Rattle.book.specs.Tables.{state}
+use Rattle.book.specs.declared.answer.Answer.TheVariants as answer
+use Rattle.book.proofs.CallLemmas.{carried_plain, kept, CarriedOutIn, done_refused}
 use Rattle.book.proofs.book.Book.open.Given as given
 use Rattle.book.proofs.book.Book.open.Goals as goal
 use Rattle.book.proofs.book.Book.open.Goals.{After-open}
@@ -20,7 +20,7 @@ open-requires g c =
     let b = c.args.self.now in
     let checked = c.in_ok-newcomer.ensures in
     let passed = passed_opening (g.T.UseTable.meaning b.policy.table) (state b.tables) c.args.dispatch c.args.weight checked.0 in
-    rw checked.1 (record { small = passed.0; closed = passed.3 })
+    rw checked.1 (record { number = passed.0; weight = passed.1; light = passed.2; out = passed.3 })
 
 -- the dispatch joins the open list
 carried : (g : given.Over) (c : After-open g) → CarriedOutIn g.T.UseTable.meaning g.O.RecallOrder.meaning c.args.self.now (call.Open c.args.dispatch c.args.weight) (Ok answer.Ok) c.empty.result (state c.open.new.self)

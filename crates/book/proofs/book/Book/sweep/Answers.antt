@@ -1,50 +1,40 @@
-use Rattle.std.proofs.Common.{◌≡◌, Ok, refl, ap}
-use Rattle.uses.specs.Relations.{Relations}
-use Rattle.model.specs.State.{State}
+use Rattle.std.proofs.Common.{Ok, refl, sym, ap, ◌∙◌}
+use Rattle.model.specs.Calls.{swept}
 use Rattle.model.specs.Recalling.{Recalled, recall_result}
-use Rattle.model.specs.Calls.{swept, report_of, woken}
 use Rattle.model.specs.declared.call.Call.TheVariants as call
-use Rattle.model.specs.declared.report.Report.{Report}
-use Rattle.book.specs.Held.{state}
-use Rattle.book.specs.declared.answers.Answer.TheVariants as answer
-use Rattle.book.proofs.Carrying.{carried_accepted, kept, CarriedOutIn}
-use Rattle.book.proofs.Steady.{tables_steady}
-use Rattle.book.proofs.Turning.{recalled_room}
-use Rattle.book.proofs.Waking.{woken_at}
+use Rattle.book.specs.Tables.{state}
+use Rattle.book.specs.declared.answer.Answer.TheVariants as answer
+use Rattle.book.proofs.CallLemmas.{carried_accepted, kept, CarriedOutIn}
+use Rattle.book.proofs.EntryLemmas.{recall_result-clear, report-nobody}
 use Rattle.book.proofs.book.Book.sweep.Given as given
 use Rattle.book.proofs.book.Book.sweep.Goals as goal
-use Rattle.book.proofs.book.Book.sweep.Goals.{After-recall_all}
+use Rattle.book.proofs.book.Book.sweep.Goals.{After-sweep}
 
-pub name_all_woken-requires : goal.name_all_woken-requires
-name_all_woken-requires g c =
+-- a periodic book is swept
+swept_now : (g : given.Over) (c : After-sweep g) → CarriedOutIn g.T.UseTable.meaning g.O.RecallOrder.meaning c.args.self.now call.Sweep (Ok answer.Ok) c.sweep.new.report (state c.sweep.new.tables)
+swept_now g c =
     let b = c.args.self.now in
-    record {
-      none = ap (λ (r : Report). r.woken) c.recall_all.ensures.named;
-      room = recalled_room (g.T.UseTable.meaning b.policy.table) (g.O.RecallOrder.meaning b.policy.order) (g.met.O.RecallOrder.lawful b.policy.order) (state b.tables) (state c.recall_all.new.self) c.recall_all.result (tables_steady b.tables) c.recall_all.ensures.after c.recall_all.ensures.named;
-    }
-
-module _ (g : given.Over) (c : After-recall_all g) where
-  abbrev u : Relations
-  u = g.T.UseTable.meaning c.args.self.now.policy.table
-
-  abbrev s : State
-  s = state c.args.self.now.tables
-
-  -- who is recalled, and the state left
-  abbrev r : Recalled
-  r = recall_result u (g.O.RecallOrder.meaning c.args.self.now.policy.order) s
-
-  -- the sweep, with a report that names whom it wakes
-  carried : (named : Report) → named ≡ report_of r.recalls (woken u s r.state) → CarriedOutIn g.T.UseTable.meaning g.O.RecallOrder.meaning c.args.self.now call.Sweep (Ok answer.Ok) named (state c.recall_all.new.self)
-  carried named is = carried_accepted u (g.O.RecallOrder.meaning c.args.self.now.policy.order) s call.Sweep answer.Ok (swept r) named (state c.recall_all.new.self) refl refl refl is c.recall_all.ensures.after
+    let u = g.T.UseTable.meaning b.policy.table in
+    let o = g.O.RecallOrder.meaning b.policy.order in
+    carried_accepted u o (state b.tables) call.Sweep answer.Ok (swept (recall_result u o (state b.tables))) c.sweep.new.report (state c.sweep.new.tables) refl refl refl c.sweep.ensures.reported c.sweep.ensures.after
 
 pub invariant_of-self : goal.invariant_of-self
 invariant_of-self g c =
     let b = c.args.self.now in
-    record { kept = kept (g.T.UseTable.meaning b.policy.table) (g.O.RecallOrder.meaning b.policy.order) (g.met.O.RecallOrder.lawful b.policy.order) (state b.tables) call.Sweep b.kept (carried g (goal.at.invariant_of-self g c).After-recall_all _ refl) }
+    record { kept = kept (g.T.UseTable.meaning b.policy.table) (g.O.RecallOrder.meaning b.policy.order) (g.met.O.RecallOrder.lawful b.policy.order) (state b.tables) call.Sweep b.kept (swept_now g (goal.at.invariant_of-self g c).After-sweep) }
 
-pub returns : goal.returns
-returns g c =
-    let at = (goal.at.returns g c).After-recall_all in
-    let named = woken_at (u g at) (s g at) (state c.recall_all.new.self) (r g at).state (r g at).recalls c.recall_all.result c.name_all_woken.new.report c.waiting_sections-before.result c.recall_all.ensures.after c.waiting_sections-before.ensures c.name_all_woken.ensures c.recall_all.ensures.named in
-    record { carried = carried g at c.name_all_woken.new.report named; policy = refl }
+pub returns-in-Periodic : goal.returns-in-Periodic
+returns-in-Periodic g c = record { carried = swept_now g (goal.at.returns-in-Periodic g c).After-sweep; policy = refl }
+
+-- in a continuous book no cycle stands
+pub returns-in-Continuous : goal.returns-in-Continuous
+returns-in-Continuous g c =
+    let b = c.args.self.now in
+    let u = g.T.UseTable.meaning b.policy.table in
+    let o = g.O.RecallOrder.meaning b.policy.order in
+    let s = state b.tables in
+    let nobody = recall_result-clear u o (g.met.O.RecallOrder.lawful b.policy.order) s b.tables.consistent (b.kept.no_cycle c.in-Continuous.is) in
+    record {
+      carried = carried_accepted u o s call.Sweep answer.Ok (swept (recall_result u o s)) c.empty.result s refl refl refl (c.empty.ensures ∙ report-nobody u s (recall_result u o s) nobody) (sym (ap (λ (r : Recalled). r.state) nobody));
+      policy = refl;
+    }

@@ -1,20 +1,16 @@
-use Rattle.std.proofs.Common.{◌≡◌, not, eqb, refl, rules}
-use Rattle.model.specs.Claims.{without}
+use Rattle.std.proofs.Common.{List, sym, subst}
 use Rattle.model.specs.State.{entries_without}
-use Rattle.book.proofs.Steady.{tables_steady, steady_same, steady_closed}
+use Rattle.model.specs.Invariant.{IsConsistent}
+use Rattle.model.specs.declared.state.Claim.{Claim}
+use Rattle.model.specs.declared.state.OpenEntry.{OpenEntry}
+use Rattle.model.proofs.Keeps.{without_consistent}
+use Rattle.book.specs.Tables.{state}
+use Rattle.book.proofs.TablesLemmas.{with_claims, with_opened}
 use Rattle.book.proofs.tables.Tables.take_out.Goals as goal
 
 pub invariant_of-self : goal.invariant_of-self
 invariant_of-self c =
     let b = c.args.self.now in
-    let stays : c.retain.new.self ≡ entries_without c.args.dispatch b.opened = c.retain.ensures (λ e. not (eqb e.dispatch c.args.dispatch)) (λ e answer says. search rules) in
-    let v =
-    steady_same (entries_without c.args.dispatch b.opened) c.retain.new.self (without c.args.dispatch b.claims) c.take_out.new.self stays c.take_out.ensures
-    (steady_closed b.opened b.claims c.args.dispatch (tables_steady b))
-    in
-    record { distinct = v.distinct; small = v.small; grounded = v.grounded }
-
-pub returns : goal.returns
-returns c =
-    let stays : c.retain.new.self ≡ entries_without c.args.dispatch c.args.self.now.opened = c.retain.ensures (λ e. not (eqb e.dispatch c.args.dispatch)) (λ e answer says. search rules) in
-    simp (stays, c.take_out.ensures) refl
+    let d = c.args.dispatch in
+    let claims = subst (λ (cs : List Claim). IsConsistent (with_opened (with_claims (state b) cs) (entries_without d b.opened))) (sym c.take_out-2.ensures) (without_consistent (state b) b.consistent d) in
+    record { consistent = subst (λ (es : List OpenEntry). IsConsistent (with_opened (with_claims (state b) c.take_out-2.new.self) es)) (sym c.take_out.ensures) claims }

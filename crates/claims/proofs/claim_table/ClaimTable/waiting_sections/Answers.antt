@@ -1,4 +1,4 @@
-use Rattle.std.proofs.Common.{◌≡◌, ℕ, ◌&&◌, List, Option, refl, ap, ◌∙◌, arith}
+use Rattle.std.proofs.Common.{ℕ, ◌&&◌, List, Option, refl, ap, ◌∙◌}
 use Rattle.std.specs.Option.{option_map}
 use Rattle.model.specs.Claims.{InLine, of, waits}
 use Rattle.model.specs.Search.{find}

@@ -1,4 +1,4 @@
-use Rattle.std.proofs.Common.{◌≡◌, ℕ, Bool, ◌&&◌, ◌||◌, refl, ap, ◌∙◌, arith}
+use Rattle.std.proofs.Common.{ℕ, Bool, ◌&&◌, ◌||◌, refl, ap, ◌∙◌}
 use Rattle.model.specs.Claims.{InLine, of, blocks}
 use Rattle.model.specs.Search.{any}
 use Rattle.claims.proofs.RowsLemmas.{same_rows}

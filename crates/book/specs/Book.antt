@@ -1,0 +1,61 @@
+-- What a book is, and what its calls promise.
+use Rattle.std.specs.Prelude.{◌≡◌, ℕ, Ok, Err, Result}
+use Rattle.uses.specs.Relations.{Relations}
+use Rattle.model.specs.State.{State}
+use Rattle.model.specs.Recalling.{Order}
+use Rattle.model.specs.Calls.{step, report}
+use Rattle.model.specs.Questions.{condition_asked}
+use Rattle.model.specs.Runs.{Run, next, at}
+use Rattle.model.specs.Law.{Law}
+use Rattle.model.specs.declared.call.Call.{Call}
+use Rattle.model.specs.declared.report.Report.{Report}
+use Rattle.book.specs.Answer.{number, answer_of}
+use Rattle.book.specs.Tables.{state}
+use Rattle.book.specs.declared.answer.Answer.{Answer}
+use Rattle.book.specs.declared.answer.Refusal.{Refusal}
+use Rattle.book.specs.declared.answer.Status.{Status}
+use Rattle.book.specs.declared.book.Book.{Book}
+
+-- the state that a book keeps
+abbrev pub state_of : {T O : Type 0} {t : _} → Book T O t → State
+state_of b = state b.tables
+
+-- its use table
+abbrev pub table_of : {T O : Type 0} {t : _} → Book T O t → T
+table_of b = b.policy.table
+
+-- its recall order
+abbrev pub order_of : {T O : Type 0} {t : _} → Book T O t → O
+order_of b = b.policy.order
+
+-- below, `u` is the meaning of the use table, `o` that of the recall order
+module _ (u : Relations) (o : Order) (before : State) (c : Call) (answer : Result Answer Refusal) (r : Report) (after : State) where
+  -- the answer, the whole report and the whole state left are the model's for the call
+  pub record CarriedOut : Type 0 where
+    pub answered : answer_of answer ≡ (step u o before c).answer
+    pub reported : r ≡ report (step u o before c)
+    pub left : after ≡ (step u o before c).state
+
+  -- a run that has led to the state before goes on with the call: to the state left, and lawfully
+  pub record RunGoesOn (run : Run) : Type 0 where
+    pub carried : CarriedOut
+    pub leads : at u o (next run c) ≡ after
+    pub lawful : Law u o (next run c)
+
+-- below, `uses` and `orders` give the meanings of tables and of orders
+module _ {T O : Type 0} {t : _} (uses : T → Relations) (orders : O → Order) (before : Book T O t) (c : Call) (answer : Result Answer Refusal) (r : Report) (after : Book T O t) where
+  -- what every call of a book promises: it is carried out, and the table and the order stay
+  pub record CarriesOut : Type 0 where
+    pub carried : CarriedOut (uses (table_of before)) (orders (order_of before)) (state_of before) c answer r (state_of after)
+    pub policy : after.policy ≡ before.policy
+
+  -- the law over runs: every run that has led to the book goes on with the call
+  abbrev pub KeepsLaw : Type 0
+  KeepsLaw =
+      (run : Run) → at (uses (table_of before)) (orders (order_of before)) run ≡ state_of before
+      → RunGoesOn (uses (table_of before)) (orders (order_of before)) (state_of before) c answer r (state_of after) run
+
+-- the status is the model's; a refusal is by the model's number
+abbrev pub IsStatus : Relations → State → ℕ → Result Status Refusal → Type 0
+IsStatus u s d (Ok x) = condition_asked u s d ≡ Ok (x.condition, x.waiting_section)
+IsStatus u s d (Err e) = condition_asked u s d ≡ Err (number e)
