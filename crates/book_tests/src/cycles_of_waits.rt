@@ -1,6 +1,6 @@
 // Cycles of waits through all 64 dispatches.
 use crate::trial::{Trial, claim};
-use book::answers::Answer;
+use book::answer::Answer;
 use model::call::Call;
 use model::report::Report;
 use model::state::{Condition, Detection};

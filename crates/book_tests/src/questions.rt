@@ -1,7 +1,7 @@
 // The three questions, on a small book.
 use crate::trial::{Trial, claim};
-use book::answers::{Answer, Refusal};
-use book::questions::Status;
+use book::answer::{Answer, Refusal};
+use book::answer::Status;
 use dispatch_set::DispatchSet;
 use model::state::{Condition, Detection};
 use std::process::Abort;

@@ -1,6 +1,6 @@
 // Each refusal, but that for want of room.
 use crate::trial::{Trial, acknowledge, claim, close, open, withdraw};
-use book::answers::{Answer, Refusal};
+use book::answer::{Answer, Refusal};
 use model::state::Detection;
 use std::process::Abort;
 use uses::two_uses::MOVE;

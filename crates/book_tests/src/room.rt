@@ -1,6 +1,6 @@
 // A book with all its claims.
 use crate::trial::{Trial, claim, close};
-use book::answers::{Answer, Refusal};
+use book::answer::{Answer, Refusal};
 use model::state::Detection;
 use std::ops::Range;
 use std::process::Abort;

@@ -1,5 +1,5 @@
 // The books and the first calls of the trials.
-use book::answers::{Answer, Refusal};
+use book::answer::{Answer, Refusal};
 use book::book::Book;
 use model::report::Report;
 use model::state::Detection;

@@ -1,6 +1,6 @@
 // A book on trial, with the report of its last call.
 use crate::setting::{new_book, open_all};
-use book::answers::{Answer, Refusal};
+use book::answer::{Answer, Refusal};
 use book::book::Book;
 use model::call::Call;
 use model::report::Report;

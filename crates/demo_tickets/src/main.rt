@@ -2,7 +2,7 @@
 
 // A station's own program, as it runs in a cabinet by the track. It opens by ticket, so it cannot
 // forget a dispatch on any way out: the language refuses a program that lets a ticket go.
-use book::answers::{Answer, Refusal};
+use book::answer::{Answer, Refusal};
 use book::book::Book;
 use model::call::Call;
 use model::report::Report;

@@ -4,8 +4,8 @@ use Rattle.std.specs.declared.result.Result.TheVariants as result
 use Rattle.std.proofs.lemmas.List.{get_or-drop}
 use Rattle.std.proofs.lemmas.Fmt.{length-decimal-le}
 use Rattle.model.specs.Calls.{answer_refused}
-use Rattle.book.specs.declared.answers.Answer.{Answer}
-use Rattle.book.specs.declared.answers.Answer.TheVariants.{Ok, Granted, Covered, Waits, Recalled}
+use Rattle.book.specs.declared.answer.Answer.{Answer}
+use Rattle.book.specs.declared.answer.Answer.TheVariants.{Ok, Granted, Covered, Waits, Recalled}
 use Rattle.protocol.specs.Words.{words, answer, fault, reply_to, printed_line, named_words, named_lines, names}
 
 -- a number of 8 bits has at most 3 digits

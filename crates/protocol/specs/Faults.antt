@@ -1,8 +1,8 @@
 -- Faults, with the number, the place and the layer of each.
 use Rattle.std.specs.Prelude.{ℕ}
-use Rattle.book.specs.Said.{number}
-use Rattle.book.specs.declared.answers.Refusal.{Refusal}
-use Rattle.book.specs.declared.answers.Refusal.TheVariants.{NumberTooHigh, SectionTooHigh, NotKnown, WeightTooHigh, IsRecalled, IsOpen, IsFree, IsWaiting, NoRoom, NotRecalled}
+use Rattle.book.specs.Answer.{number}
+use Rattle.book.specs.declared.answer.Refusal.{Refusal}
+use Rattle.book.specs.declared.answer.Refusal.TheVariants.{NumberTooHigh, SectionTooHigh, NotKnown, WeightTooHigh, IsRecalled, IsOpen, IsFree, IsWaiting, NoRoom, NotRecalled}
 use Rattle.protocol.specs.declared.fault.Fault.{Fault}
 use Rattle.protocol.specs.declared.fault.Fault.TheVariants.{TooManyLines, TooLong, NoLetter, WrongForm, Refused}
 use Rattle.protocol.specs.declared.fault.Layer.{Layer}

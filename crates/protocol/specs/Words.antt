@@ -4,8 +4,8 @@ use Rattle.std.specs.declared.result.Result.TheVariants as result
 use Rattle.model.specs.Calls.{ModelAnswer, answer_refused}
 use Rattle.model.specs.declared.report.ReportEntry.{ReportEntry}
 use Rattle.model.specs.declared.report.Report.{Report}
-use Rattle.book.specs.Said.{answer_of, answer_words}
-use Rattle.book.specs.declared.answers.Answer.{Answer}
+use Rattle.book.specs.Answer.{answer_of, answer_words}
+use Rattle.book.specs.declared.answer.Answer.{Answer}
 use Rattle.protocol.specs.Faults.{fault_number, fault_place, fault_layer}
 use Rattle.protocol.specs.declared.fault.Fault.{Fault}
 use Rattle.protocol.specs.declared.fault.Layer.{Layer}

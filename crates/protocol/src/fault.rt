@@ -4,7 +4,7 @@ ghost use Rattle.protocol.specs.Faults.{field, layer as layer_of, fault_number, 
 ghost use Rattle.protocol.specs.Words.{words, reply_to};
 ghost use Rattle.protocol.specs.declared.fault.Fault.TheVariants.{Refused};
 
-use book::answers::Refusal;
+use book::answer::Refusal;
 use std::error::Error;
 use std::fmt;
 

@@ -6,7 +6,7 @@ ghost use Rattle.text_buffer.specs.Text.{put_behind};
 ghost use Rattle.protocol.specs.Words.{words, printed_line, named_words, named_lines, names, printed, reply_to, named_recalled, named_woken};
 
 use crate::fault::{Fault, Layer};
-use book::answers::Answer;
+use book::answer::Answer;
 use model::report::{Report, ReportEntry};
 use text_buffer::place::Printed;
 

@@ -7,7 +7,7 @@ use Rattle.std.proofs.lemmas.Bool.Decides.{nat_tests}
 use Rattle.uses.specs.Relations.{Relations}
 use Rattle.model.specs.Recalling.{Order}
 use Rattle.model.specs.declared.state.Detection.{Detection}
-use Rattle.book.specs.Held.{state}
+use Rattle.book.specs.Tables.{state}
 use Rattle.book.specs.declared.book.Book.{Book}
 use Rattle.session.specs.Inputs.{Lines, more, Unbroken, Cut, with_rest, line_length}
 use Rattle.session.specs.Stands.{HasAnswered, HasRead, AnswersLine, EndsLines, Finishes}

@@ -8,11 +8,11 @@ use Rattle.model.specs.Calls.{step, report_of}
 use Rattle.model.specs.Invariant.{Invariant}
 use Rattle.model.specs.declared.call.Call.{Call}
 use Rattle.model.specs.declared.report.Report.{Report}
-use Rattle.book.specs.Carried.{CarriedOut}
-use Rattle.book.specs.Said.{answer_of}
-use Rattle.book.specs.declared.answers.Answer.{Answer}
-use Rattle.book.specs.declared.answers.Refusal.{Refusal}
-use Rattle.book.specs.declared.answers.Refusal.TheVariants.{NumberTooHigh, SectionTooHigh, NotKnown, WeightTooHigh, IsRecalled, IsOpen, IsFree, IsWaiting, NoRoom, NotRecalled}
+use Rattle.book.specs.Book.{CarriedOut}
+use Rattle.book.specs.Answer.{answer_of}
+use Rattle.book.specs.declared.answer.Answer.{Answer}
+use Rattle.book.specs.declared.answer.Refusal.{Refusal}
+use Rattle.book.specs.declared.answer.Refusal.TheVariants.{NumberTooHigh, SectionTooHigh, NotKnown, WeightTooHigh, IsRecalled, IsOpen, IsFree, IsWaiting, NoRoom, NotRecalled}
 use Rattle.protocol.specs.Reading.{Reading, too_long, no_letter, wrong_form}
 use Rattle.protocol.specs.Words.{Reply, answer, reply_to}
 use Rattle.protocol.specs.declared.fault.Fault.{Fault}

@@ -8,8 +8,8 @@ use Rattle.model.specs.Recalling.{Order}
 use Rattle.model.specs.declared.report.ReportEntry.{ReportEntry}
 use Rattle.model.specs.declared.state.Detection.{Detection}
 use Rattle.model.specs.declared.report.Report.{Report}
-use Rattle.book.specs.Held.{state}
-use Rattle.book.specs.declared.answers.Answer.{Answer}
+use Rattle.book.specs.Tables.{state}
+use Rattle.book.specs.declared.answer.Answer.{Answer}
 use Rattle.protocol.specs.Words.{Reply, reply_to, printed, named_recalled, named_woken}
 use Rattle.protocol.specs.declared.fault.Fault.{Fault}
 use Rattle.session.specs.Inputs.{Lines, more, count}

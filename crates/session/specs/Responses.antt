@@ -6,7 +6,7 @@ use Rattle.model.specs.Recalling.{Order}
 use Rattle.model.specs.Calls.{report_of}
 use Rattle.model.specs.declared.report.ReportEntry.{ReportEntry}
 use Rattle.model.specs.declared.report.Report.{Report}
-use Rattle.book.specs.declared.answers.Answer.{Answer}
+use Rattle.book.specs.declared.answer.Answer.{Answer}
 use Rattle.protocol.specs.Words.{reply_to}
 use Rattle.protocol.specs.declared.fault.Fault.{Fault}
 use Rattle.session.specs.Transcript.{Gives}

@@ -4,7 +4,7 @@ use Rattle.std.specs.Io.KnownBytes.{Appends}
 use Rattle.uses.specs.Relations.{Relations}
 use Rattle.model.specs.Recalling.{Order}
 use Rattle.model.specs.declared.state.Detection.{Detection}
-use Rattle.book.specs.Held.{state}
+use Rattle.book.specs.Tables.{state}
 use Rattle.session.specs.Inputs.{Lines, more, count, Cut, with_rest}
 use Rattle.session.specs.Transcript.{Answered, Transcript}
 use Rattle.session.specs.declared.console.Console.{Console}

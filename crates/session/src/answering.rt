@@ -1,12 +1,12 @@
 // Answering a line.
 ghost use Rattle.std.specs.Prelude.{◌≡◌, ◌≤◌, []};
 ghost use Rattle.model.specs.Calls.{report_of};
-ghost use Rattle.book.specs.Held.{state};
+ghost use Rattle.book.specs.Tables.{state};
 ghost use Rattle.session.specs.Responses.{Responded};
 ghost use Rattle.session.specs.Stands.{AnswersLine};
 
 use crate::console::Console;
-use book::answers::Answer;
+use book::answer::Answer;
 use book::book::Book;
 use fixed_list::FixedList;
 use model::report::Report;

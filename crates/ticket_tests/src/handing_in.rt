@@ -1,7 +1,7 @@
 // Handing a ticket in, however its dispatch stands. A ticket cannot be let go, so each trial hands it
 // in before it looks at what was answered.
 use crate::trial::{Outcome, Trial};
-use book::answers::{Answer, Refusal};
+use book::answer::{Answer, Refusal};
 use model::state::Condition;
 use std::process::Abort;
 use std::test::Fail;

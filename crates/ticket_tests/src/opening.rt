@@ -1,6 +1,6 @@
 // An opening that is refused gives no ticket.
 use crate::trial::Trial;
-use book::answers::Refusal;
+use book::answer::Refusal;
 use tickets::ticket::Ending;
 
 // Opens by ticket, and hands the ticket in at once.

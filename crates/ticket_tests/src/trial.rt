@@ -1,5 +1,5 @@
 // A book on trial, with the report of its last call. Some of its dispatches are opened by ticket.
-use book::answers::{Answer, Refusal};
+use book::answer::{Answer, Refusal};
 use book::book::Book;
 use model::report::Report;
 use model::state::{Condition, Detection};

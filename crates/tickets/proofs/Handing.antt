@@ -11,11 +11,11 @@ use Rattle.model.specs.declared.report.Report.{Report}
 use Rattle.model.specs.declared.state.Condition.{Condition}
 use Rattle.model.specs.declared.state.Condition.TheVariants.{Free, Running, Waiting, Recalled}
 use Rattle.model.proofs.Numbers.{open_closed}
-use Rattle.book.specs.Said.{number}
-use Rattle.book.specs.Carried.{CarriedOut}
-use Rattle.book.specs.declared.answers.Answer.{Answer}
-use Rattle.book.specs.declared.answers.Refusal.{Refusal}
-use Rattle.book.specs.declared.answers.Refusal.TheVariants.{NumberTooHigh, SectionTooHigh, NotKnown, WeightTooHigh, IsRecalled, IsOpen, IsFree, IsWaiting, NoRoom, NotRecalled}
+use Rattle.book.specs.Answer.{number}
+use Rattle.book.specs.Book.{CarriedOut}
+use Rattle.book.specs.declared.answer.Answer.{Answer}
+use Rattle.book.specs.declared.answer.Refusal.{Refusal}
+use Rattle.book.specs.declared.answer.Refusal.TheVariants.{NumberTooHigh, SectionTooHigh, NotKnown, WeightTooHigh, IsRecalled, IsOpen, IsFree, IsWaiting, NoRoom, NotRecalled}
 use Rattle.tickets.specs.Answered.{booked}
 use Rattle.tickets.specs.HandIn.{hand_in, ending}
 use Rattle.tickets.specs.declared.ticket.Ending.{Ending}

@@ -6,12 +6,12 @@ use Rattle.model.specs.Recalling.{Order}
 use Rattle.model.specs.Calls.{checks, refusal, accepted, effect_by, step, answer_ok, answer_refused}
 use Rattle.model.specs.declared.call.Call.{Call}
 use Rattle.model.specs.declared.report.Report.{Report}
-use Rattle.book.specs.Said.{number, answer_of}
-use Rattle.book.specs.Carried.{CarriedOut, CarriesOut}
-use Rattle.book.specs.Held.{state}
-use Rattle.book.specs.declared.answers.Answer.{Answer}
-use Rattle.book.specs.declared.answers.Answer.TheVariants as answer
-use Rattle.book.specs.declared.answers.Refusal.{Refusal}
+use Rattle.book.specs.Answer.{number, answer_of}
+use Rattle.book.specs.Book.{CarriedOut, CarriesOut}
+use Rattle.book.specs.Tables.{state}
+use Rattle.book.specs.declared.answer.Answer.{Answer}
+use Rattle.book.specs.declared.answer.Answer.TheVariants as answer
+use Rattle.book.specs.declared.answer.Refusal.{Refusal}
 use Rattle.book.specs.declared.book.Book.{Book}
 
 module _ (u : Relations) (o : Order) (s : State) (c : Call) (r : Report) (t : State) where

@@ -1,9 +1,9 @@
 -- What a ticket's calls answer, in the book's words.
 use Rattle.std.specs.Prelude.{◌≡◌, ℕ, Result}
 use Rattle.std.specs.declared.result.Result.TheVariants as result
-use Rattle.book.specs.declared.answers.Answer.{Answer}
-use Rattle.book.specs.declared.answers.Answer.TheVariants as answer
-use Rattle.book.specs.declared.answers.Refusal.{Refusal}
+use Rattle.book.specs.declared.answer.Answer.{Answer}
+use Rattle.book.specs.declared.answer.Answer.TheVariants as answer
+use Rattle.book.specs.declared.answer.Refusal.{Refusal}
 use Rattle.tickets.specs.declared.ticket.Ticket.{Ticket}
 
 -- the book's answer: ok where a ticket or an ending is given, and a refusal as it is

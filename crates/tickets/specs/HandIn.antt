@@ -6,9 +6,9 @@ use Rattle.model.specs.declared.call.Call.{Call}
 use Rattle.model.specs.declared.call.Call.TheVariants.{Close, Withdraw, Acknowledge}
 use Rattle.model.specs.declared.state.Condition.{Condition}
 use Rattle.model.specs.declared.state.Condition.TheVariants.{Free, Running, Waiting, Recalled}
-use Rattle.book.specs.Held.{state}
-use Rattle.book.specs.declared.answers.Refusal.{Refusal}
-use Rattle.book.specs.declared.answers.Refusal.TheVariants.{IsFree}
+use Rattle.book.specs.Tables.{state}
+use Rattle.book.specs.declared.answer.Refusal.{Refusal}
+use Rattle.book.specs.declared.answer.Refusal.TheVariants.{IsFree}
 use Rattle.book.specs.declared.book.Book.{Book}
 use Rattle.tickets.specs.declared.ticket.Ending.{Ending}
 use Rattle.tickets.specs.declared.ticket.Ending.TheVariants.{Closed, Withdrawn, Acknowledged}

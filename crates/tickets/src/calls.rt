@@ -1,11 +1,11 @@
 // The calls of a ticket.
 ghost use Rattle.std.specs.Prelude.{◌≡◌};
 ghost use Rattle.model.specs.declared.call.Call.TheVariants.{Open, Claim as ClaimCall};
-ghost use Rattle.book.specs.Carried.{CarriesOut, KeepsLaw};
+ghost use Rattle.book.specs.Book.{CarriesOut, KeepsLaw};
 ghost use Rattle.tickets.specs.Answered.{booked, Names};
 
 use crate::ticket::Ticket;
-use book::answers::{Answer, Refusal};
+use book::answer::{Answer, Refusal};
 use book::book::Book;
 use model::call::Call;
 use model::report::Report;

@@ -1,13 +1,13 @@
 // Handing a ticket in.
 ghost use Rattle.std.specs.Prelude.{◌≡◌, true};
 ghost use Rattle.model.specs.State.{is_free};
-ghost use Rattle.book.specs.Carried.{CarriesOut, KeepsLaw};
-ghost use Rattle.book.specs.Held.{state};
+ghost use Rattle.book.specs.Book.{CarriesOut, KeepsLaw};
+ghost use Rattle.book.specs.Tables.{state};
 ghost use Rattle.tickets.specs.Answered.{booked};
 ghost use Rattle.tickets.specs.HandIn.{how_stands, hand_in, ending};
 
 use crate::ticket::{Ending, Ticket};
-use book::answers::{Answer, Refusal};
+use book::answer::{Answer, Refusal};
 use book::book::Book;
 use model::report::Report;
 use model::state::Condition;

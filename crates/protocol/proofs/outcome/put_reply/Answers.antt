@@ -1,5 +1,5 @@
 use Rattle.std.proofs.Common.{◌≡◌, ℕ, ◌≤◌, List, length, Result, sym, ap, ◌∙◌, subst, arith, append_assoc}
-use Rattle.book.specs.declared.answers.Answer.{Answer}
+use Rattle.book.specs.declared.answer.Answer.{Answer}
 use Rattle.text_buffer.specs.Text.{put_behind}
 use Rattle.text_buffer.proofs.Behind.{behind_behind}
 use Rattle.protocol.specs.Words.{words, reply_to}

@@ -1,6 +1,6 @@
 use Rattle.std.proofs.Common.{Ok, Err, refl, arith}
 use Rattle.std.proofs.lemmas.Result.{err_from_is_err_and}
-use Rattle.book.specs.Held.{state}
+use Rattle.book.specs.Tables.{state}
 use Rattle.session.proofs.Responding.{last_responded, fault_responded, carried_responded}
 use Rattle.session.proofs.answering.respond.Goals as goal
 

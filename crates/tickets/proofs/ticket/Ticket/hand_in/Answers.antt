@@ -2,8 +2,8 @@ use Rattle.std.proofs.Common.{Err, ap}
 use Rattle.std.proofs.lemmas.Result.{err_from_is_err_and}
 use Rattle.model.specs.Questions.{condition}
 use Rattle.model.specs.declared.state.Condition.{Condition}
-use Rattle.book.specs.Held.{state}
-use Rattle.book.proofs.GoesOn.{asked_made}
+use Rattle.book.specs.Tables.{state}
+use Rattle.book.proofs.RunLemmas.{asked_made}
 use Rattle.tickets.specs.Answered.{booked}
 use Rattle.tickets.specs.HandIn.{hand_in}
 use Rattle.tickets.proofs.Handing.{condition_told, ended_as, refused_free, answered_ended, free_after}

@@ -2,9 +2,9 @@ use Rattle.std.proofs.Common.{Ok, Err, refl, arith}
 use Rattle.std.proofs.lemmas.Result.{err_from_is_err_and}
 use Rattle.model.specs.declared.call.Call.TheVariants as call
 use Rattle.model.proofs.Steps.{passed_opening}
-use Rattle.book.specs.Held.{state}
-use Rattle.book.specs.declared.answers.Answer.TheVariants as answer
-use Rattle.book.proofs.GoesOn.{keeps_law}
+use Rattle.book.specs.Tables.{state}
+use Rattle.book.specs.declared.answer.Answer.TheVariants as answer
+use Rattle.book.proofs.RunLemmas.{keeps_law}
 use Rattle.tickets.proofs.Passing.{passed, done_ok}
 use Rattle.tickets.proofs.ticket.Ticket.open.Goals as goal
 
