@@ -10,7 +10,7 @@ use Rattle.model.specs.Search.{any, find}
 use Rattle.model.specs.Claims.{InLine, in_line, of, blocks, waits, waits_for, dispatch_waits, waiting_section}
 use Rattle.model.specs.State.{State, is_open, state_with_claim}
 use Rattle.model.specs.Recalling.{Order, Recalled, nobody, first, on_cycles, recall_result}
-use Rattle.model.specs.Calls.{ModelAnswer, Effect, claimed, claim_answer, is_named, after_entry, answer_granted, answer_waits, answer_recalled, report_of, woken}
+use Rattle.model.specs.Calls.{Effect, claimed, claim_answer, is_named, after_entry, answer_granted, answer_waits, answer_recalled, report_of, woken}
 use Rattle.model.specs.Invariant.{IsConsistent, NoCycle, claim_in_range}
 use Rattle.model.specs.declared.report.Report.{Report}
 use Rattle.model.specs.declared.report.ReportEntry.{ReportEntry}
@@ -27,7 +27,7 @@ use Rattle.model.proofs.Wakes.{woken_same, woken_entered}
 use Rattle.claims.specs.ClaimTable.{AreWaitingSections}
 use Rattle.book.proofs.WokenLemmas.{none_is}
 use Rattle.book.specs.Answer.{answer_of}
-use Rattle.book.specs.Tables.{EntryLeads, EntersClaim, ReportsRecalls}
+use Rattle.book.specs.Tables.{EntryLeads, EntersClaim, claimant_answer}
 use Rattle.book.specs.declared.answer.Answer.{Answer}
 use Rattle.book.specs.declared.answer.Answer.TheVariants as answer
 
@@ -49,10 +49,6 @@ pub answer_by_open : (u : Relations) (o : Order) → OrderLaws o → (t : State)
 answer_by_open u o lawful t g d here =
     let named_so = named_closed u o d (recalling_recalls u o lawful t g) here in
     grind (arith, named_so)
-
--- how a claimant stands in a state
-abbrev pub stands : Relations → ℕ → State → ModelAnswer
-stands u d s = cond (is_open s d) (cond (dispatch_waits u s.claims d) answer_waits answer_granted) answer_recalled
 
 module _ (u : Relations) (o : Order) (lawful : OrderLaws o) where
   -- where nobody is first of those on cycles, nobody is recalled
@@ -157,11 +153,11 @@ module _ (u : Relations) (o : Order) (lawful : OrderLaws o) (s : State) (c : Cla
         subst (λ (x : Detection). EntryLeads u s c (after_entry u o x t) answer.Waits report after) (sym e) (leads (recall_result u o t) (recall_result-nobody u o lawful t fits none) true blocked answer.Waits refl report after empty is)
 
   -- a claim that is blocked closes a cycle in a continuous book: recalling follows
-  pub enters_recalling : (a : Answer) (report : Report) (after : State) (sections : List (Option ℕ)) → is_open t c.dispatch ≡ true → s.detection ≡ Continuous → AreWaitingSections u t.claims sections → answer_of (Ok a) ≡ stands u c.dispatch after → ReportsRecalls u (recall_result u o t) (set sections c.dispatch None) report → after ≡ (recall_result u o t).state → EntersClaim u o s c a report after
+  pub enters_recalling : (a : Answer) (report : Report) (after : State) (sections : List (Option ℕ)) → is_open t c.dispatch ≡ true → s.detection ≡ Continuous → AreWaitingSections u t.claims sections → answer_of (Ok a) ≡ claimant_answer u after c.dispatch → ((x : State) → AreWaitingSections u x.claims (set sections c.dispatch None) → report ≡ report_of (recall_result u o t).recalls (woken u x (recall_result u o t).state)) → after ≡ (recall_result u o t).state → EntersClaim u o s c a report after
   enters_recalling a report after sections here e read says reports is =
       subst (λ (x : Detection). EntryLeads u s c (after_entry u o x t) a report after) (sym e)
       (record {
-        answered = says ∙ (ap (stands u c.dispatch) is ∙ sym (answer_by_open u o lawful t (consistent_grounded t fits) c.dispatch here));
+        answered = says ∙ (ap (λ (x : State). claimant_answer u x c.dispatch) is ∙ sym (answer_by_open u o lawful t (consistent_grounded t fits) c.dispatch here));
         reported = reports s (sections_before u s.claims c runs sections read);
         left = is;
       })

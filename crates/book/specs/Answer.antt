@@ -59,7 +59,7 @@ says_granted Covered = true
 says_granted Waits = false
 says_granted Recalled = false
 
--- passed, with a value, where no check of the list applies; otherwise refused by the first that does
+-- passed, with a value, where no check of the list applies; else refused by the first that does
 abbrev pub IsChecked : {X : Type 0} → Result X Refusal → List Check → (X → Type 0) → Type 0
 IsChecked (result.Ok x) checks P = (refusal checks ≡ None) × P x
 IsChecked (result.Err e) checks P = refusal checks ≡ Some (number e)

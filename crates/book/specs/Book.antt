@@ -29,7 +29,8 @@ abbrev pub order_of : {T O : Type 0} {t : _} → Book T O t → O
 order_of b = b.policy.order
 
 -- below, `u` is the meaning of the use table, `o` that of the recall order
-module _ (u : Relations) (o : Order) (before : State) (c : Call) (answer : Result Answer Refusal) (r : Report) (after : State) where
+module _ (u : Relations) (o : Order)
+    (before : State) (c : Call) (answer : Result Answer Refusal) (r : Report) (after : State) where
   -- the answer, the whole report and the whole state left are the model's for the call
   pub record CarriedOut : Type 0 where
     pub answered : answer_of answer ≡ (step u o before c).answer
@@ -43,17 +44,27 @@ module _ (u : Relations) (o : Order) (before : State) (c : Call) (answer : Resul
     pub lawful : Law u o (next run c)
 
 -- below, `uses` and `orders` give the meanings of tables and of orders
-module _ {T O : Type 0} {t : _} (uses : T → Relations) (orders : O → Order) (before : Book T O t) (c : Call) (answer : Result Answer Refusal) (r : Report) (after : Book T O t) where
+module _ {T O : Type 0} {t : _} (uses : T → Relations) (orders : O → Order)
+    (before : Book T O t) (c : Call)
+    (answer : Result Answer Refusal) (r : Report) (after : Book T O t) where
+  -- the meaning of the book's table
+  abbrev uses_of : Relations
+  uses_of = uses (table_of before)
+
+  -- the meaning of its order
+  abbrev orders_of : Order
+  orders_of = orders (order_of before)
+
   -- what every call of a book promises: it is carried out, and the table and the order stay
   pub record CarriesOut : Type 0 where
-    pub carried : CarriedOut (uses (table_of before)) (orders (order_of before)) (state_of before) c answer r (state_of after)
+    pub carried : CarriedOut uses_of orders_of (state_of before) c answer r (state_of after)
     pub policy : after.policy ≡ before.policy
 
   -- the law over runs: every run that has led to the book goes on with the call
   abbrev pub KeepsLaw : Type 0
   KeepsLaw =
-      (run : Run) → at (uses (table_of before)) (orders (order_of before)) run ≡ state_of before
-      → RunGoesOn (uses (table_of before)) (orders (order_of before)) (state_of before) c answer r (state_of after) run
+      (run : Run) → at uses_of orders_of run ≡ state_of before
+      → RunGoesOn uses_of orders_of (state_of before) c answer r (state_of after) run
 
 -- the status is the model's; a refusal is by the model's number
 abbrev pub IsStatus : Relations → State → ℕ → Result Status Refusal → Type 0

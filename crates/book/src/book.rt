@@ -15,14 +15,14 @@ use model::state::{Claim, Detection, OpenEntry};
 use orders::order::RecallOrder;
 use uses::table::UseTable;
 
-/// A dispatch book (a lock manager) over a use table and a recall order. It holds at most 64 dispatches,
-/// 1024 sections and 512 claims, in fixed memory.
+/// A dispatch book (a lock manager) over a use table and a recall order. It holds at most 64
+/// dispatches, 1024 sections and 512 claims, in fixed memory.
 #[derive(Drop)]
 pub struct Book<T: UseTable, O> {
     pub(crate) policy: Policy<T, O>,
     pub(crate) tables: Tables,
-    // what holds at every moment of every run: the state is well formed, and in a continuous book no
-    // cycle of waits stands
+    // what holds at every moment of every run: the state is well formed, and in a continuous book
+    // no cycle of waits stands
     ghost kept: { Invariant (T.meaning policy.table) (state tables) },
 }
 
@@ -66,8 +66,8 @@ impl<T: UseTable, O> Book<T, O> {
         self.tables.recalled
     }
 
-    /// The claims, in order of arrival: at most 512. A claim waits behind those before it on its section
-    /// that conflict.
+    /// The claims, in order of arrival: at most 512. A claim waits behind those before it on its
+    /// section that conflict with it.
     pub fn claims(&self) -> &[Claim]
         ensures { result.now ≡ (state_of self.now).claims }
     {
@@ -103,11 +103,12 @@ impl<T: UseTable, O> Book<T, O> {
         })
     }
 
-    /// Puts the dispatches for which the dispatch waits into `found`. Refused by 1, and then nobody is in
-    /// it: a place of the caller's beside the `Result`, since an `Err` could not say so.
+    /// Puts the dispatches for which the dispatch waits into `found`. Refused by 1, and then nobody
+    /// is in it: a place of the caller's beside the `Result`, since an `Err` could not say so.
     pub fn waited_for(&self, dispatch: u32, found: &mut DispatchSet) -> Result<(), Refusal>
         ensures answered { IsChecked result (number_too_high dispatch ∷ []) (λ _. Unit {0}) }
-        ensures found { contains found.new ≡ waited_for_by (T.meaning (table_of self.now)) (state_of self.now) dispatch }
+        ensures found { contains found.new
+            ≡ waited_for_by (T.meaning (table_of self.now)) (state_of self.now) dispatch }
     {
         *found = DispatchSet::none();
         let number = number(dispatch)?;
@@ -115,11 +116,12 @@ impl<T: UseTable, O> Book<T, O> {
         Ok(())
     }
 
-    /// Puts the dispatches that hold a claim on the section into `found`. Refused by 2, and then nobody is
-    /// in it.
+    /// Puts the dispatches that hold a claim on the section into `found`. Refused by 2, and then
+    /// nobody is in it.
     pub fn holders(&self, section: u32, found: &mut DispatchSet) -> Result<(), Refusal>
         ensures answered { IsChecked result (section_too_high section ∷ []) (λ _. Unit {0}) }
-        ensures found { contains found.new ≡ holders_of (T.meaning (table_of self.now)) (state_of self.now) section }
+        ensures found { contains found.new
+            ≡ holders_of (T.meaning (table_of self.now)) (state_of self.now) section }
     {
         *found = DispatchSet::none();
         let section = section_number(section)?;
@@ -139,7 +141,8 @@ impl<T: UseTable, O: RecallOrder> Book<T, O> {
         weight: u32,
         report: &mut Report,
     ) -> Result<Answer, Refusal>
-        ensures { CarriesOut T.meaning O.meaning self.old (Open dispatch weight) result report.new self.new }
+        ensures { CarriesOut T.meaning O.meaning self.old (Open dispatch weight)
+            result report.new self.new }
     {
         *report = Report::empty();
         let newcomer = self.tables.check_open(dispatch, weight)?;
@@ -155,7 +158,8 @@ impl<T: UseTable, O: RecallOrder> Book<T, O> {
         mode: u32,
         report: &mut Report,
     ) -> Result<Answer, Refusal>
-        ensures { CarriesOut T.meaning O.meaning self.old (ClaimCall dispatch section mode) result report.new self.new }
+        ensures { CarriesOut T.meaning O.meaning self.old (ClaimCall dispatch section mode)
+            result report.new self.new }
     {
         *report = Report::empty();
         let table = &self.policy.table;
@@ -175,7 +179,8 @@ impl<T: UseTable, O: RecallOrder> Book<T, O> {
 
     /// Closes a dispatch that runs (commits). Refused by 1, 5, 7 and 8.
     pub fn close(&mut self, dispatch: u32, report: &mut Report) -> Result<Answer, Refusal>
-        ensures { CarriesOut T.meaning O.meaning self.old (Close dispatch) result report.new self.new }
+        ensures { CarriesOut T.meaning O.meaning self.old (Close dispatch)
+            result report.new self.new }
     {
         *report = Report::empty();
         let number = self.tables.check_close(&self.policy.table, dispatch)?;
@@ -185,7 +190,8 @@ impl<T: UseTable, O: RecallOrder> Book<T, O> {
 
     /// Withdraws a dispatch, running or waiting (aborts). Refused by 1, 5 and 7.
     pub fn withdraw(&mut self, dispatch: u32, report: &mut Report) -> Result<Answer, Refusal>
-        ensures { CarriesOut T.meaning O.meaning self.old (Withdraw dispatch) result report.new self.new }
+        ensures { CarriesOut T.meaning O.meaning self.old (Withdraw dispatch)
+            result report.new self.new }
     {
         *report = Report::empty();
         let number = self.tables.check_withdraw(dispatch)?;
@@ -195,7 +201,8 @@ impl<T: UseTable, O: RecallOrder> Book<T, O> {
 
     /// Takes note of a recall: the dispatch is free again. Refused by 1 and 10.
     pub fn acknowledge(&mut self, dispatch: u32, report: &mut Report) -> Result<Answer, Refusal>
-        ensures { CarriesOut T.meaning O.meaning self.old (Acknowledge dispatch) result report.new self.new }
+        ensures { CarriesOut T.meaning O.meaning self.old (Acknowledge dispatch)
+            result report.new self.new }
     {
         *report = Report::empty();
         let number = self.tables.check_acknowledge(dispatch)?;
@@ -216,8 +223,8 @@ impl<T: UseTable, O: RecallOrder> Book<T, O> {
         Ok(Answer::Ok)
     }
 
-    /// Carries out any call, by its own checks. For every run of calls that has led to the book, the run
-    /// with this call and this outcome added keeps exclusion, progress and recall.
+    /// Carries out any call, by its own checks. Every run of calls that has led to the book goes on
+    /// lawfully: the run with this call and this outcome added keeps exclusion, progress and recall.
     pub fn carry_out(&mut self, asked: Call, report: &mut Report) -> Result<Answer, Refusal>
         ensures done { CarriesOut T.meaning O.meaning self.old asked result report.new self.new }
         ensures law { KeepsLaw T.meaning O.meaning self.old asked result report.new self.new }

@@ -9,7 +9,7 @@ ghost use Rattle.model.specs.Invariant.{claim_in_range, NoCycle};
 ghost use Rattle.model.specs.declared.state.Detection.TheVariants.{Continuous as ModelContinuous};
 ghost use Rattle.claims.specs.ClaimTable.{AreWaitingSections};
 ghost use Rattle.book.specs.Answer.{answer_of};
-ghost use Rattle.book.specs.Tables.{state, better as better_of, ReportsRecalls, EntersClaim};
+ghost use Rattle.book.specs.Tables.{state, better as better_of, victim_of, IsCleared, NamesRecalled, ReportsRecalls, IsSwept, claimant_answer, EntersClaim};
 
 use crate::answer::Answer;
 use crate::policy::Policy;
@@ -56,7 +56,9 @@ fn first_of<T: UseTable, O: RecallOrder>(
     tables: &Tables,
     set: DispatchSet,
 ) -> Option<u8>
-    ensures { result ≡ first (T.meaning policy.now.table) (O.meaning policy.now.order) (state tables.now) (filter (contains set) (numbers (state tables.now).opened)) }
+    ensures { result ≡ first (T.meaning policy.now.table) (O.meaning policy.now.order)
+        (state tables.now)
+        (filter (contains set) (numbers (state tables.now).opened)) }
 {
     let mut best = None;
     for e in tables.opened.rows() {
@@ -73,7 +75,7 @@ fn first_of<T: UseTable, O: RecallOrder>(
 
 // The dispatch to be recalled (the deadlock victim), if a cycle of waits stands.
 fn victim<T: UseTable, O: RecallOrder>(policy: &Policy<T, O>, tables: &Tables) -> Option<u8>
-    ensures { result ≡ first (T.meaning policy.now.table) (O.meaning policy.now.order) (state tables.now) (on_cycles (T.meaning policy.now.table) (state tables.now)) }
+    ensures { result ≡ victim_of T.meaning O.meaning policy.now (state tables.now) }
 {
     let set = tables.claims.on_cycles(&policy.table);
     if set.is_empty() {
@@ -82,18 +84,18 @@ fn victim<T: UseTable, O: RecallOrder>(policy: &Policy<T, O>, tables: &Tables) -
     first_of(policy, tables, set)
 }
 
-// Recalls the victim that was found, and looks for the next, until no cycle of waits stands; and names
-// the recalled.
+// Recalls the victim that was found, and looks for the next, until no cycle of waits stands; and
+// names the recalled.
 fn recall_victims<T: UseTable, O: RecallOrder>(
     policy: &Policy<T, O>,
     tables: &mut Tables,
     found: Option<u8>,
     report: &mut Report,
 )
-    requires victim { found ≡ first (T.meaning policy.now.table) (O.meaning policy.now.order) (state tables.old) (on_cycles (T.meaning policy.now.table) (state tables.old)) }
+    requires victim { found ≡ victim_of T.meaning O.meaning policy.now (state tables.old) }
     requires empty { report.old ≡ report_of [] [] }
-    ensures after { state tables.new ≡ (recall_result (T.meaning policy.now.table) (O.meaning policy.now.order) (state tables.old)).state }
-    ensures named { report.new ≡ report_of (recall_result (T.meaning policy.now.table) (O.meaning policy.now.order) (state tables.old)).recalls [] }
+    ensures after { IsCleared T.meaning O.meaning policy.now (state tables.old) (state tables.new) }
+    ensures named { NamesRecalled T.meaning O.meaning policy.now (state tables.old) report.new }
 {
     let mut next = found;
     for _turn in 0..DISPATCHES as u8 {
@@ -119,10 +121,11 @@ fn recall_all<T: UseTable, O: RecallOrder>(
     before: &[Option<u16>; DISPATCHES],
     report: &mut Report,
 )
-    requires victim { found ≡ first (T.meaning policy.now.table) (O.meaning policy.now.order) (state tables.old) (on_cycles (T.meaning policy.now.table) (state tables.old)) }
+    requires victim { found ≡ victim_of T.meaning O.meaning policy.now (state tables.old) }
     requires empty { report.old ≡ report_of [] [] }
-    ensures after { state tables.new ≡ (recall_result (T.meaning policy.now.table) (O.meaning policy.now.order) (state tables.old)).state }
-    ensures reported { ReportsRecalls (T.meaning policy.now.table) (recall_result (T.meaning policy.now.table) (O.meaning policy.now.order) (state tables.old)) before.now report.new }
+    ensures after { IsCleared T.meaning O.meaning policy.now (state tables.old) (state tables.new) }
+    ensures reported { ReportsRecalls T.meaning O.meaning policy.now (state tables.old)
+        before.now report.new }
 {
     recall_victims(policy, tables, found, report);
     name_all_woken(&policy.table, tables, before, report);
@@ -135,8 +138,8 @@ pub fn sweep<T: UseTable, O: RecallOrder>(
     report: &mut Report,
 )
     requires empty { report.old ≡ report_of [] [] }
-    ensures after { state tables.new ≡ (recall_result (T.meaning policy.now.table) (O.meaning policy.now.order) (state tables.old)).state }
-    ensures reported { report.new ≡ report_of (recall_result (T.meaning policy.now.table) (O.meaning policy.now.order) (state tables.old)).recalls (woken (T.meaning policy.now.table) (state tables.old) (recall_result (T.meaning policy.now.table) (O.meaning policy.now.order) (state tables.old)).state) }
+    ensures { IsSwept T.meaning O.meaning policy.now (state tables.old)
+        report.new (state tables.new) }
 {
     let found = victim(policy, tables);
     if found.is_none() {
@@ -148,7 +151,8 @@ pub fn sweep<T: UseTable, O: RecallOrder>(
 
 // How a claimant stands, whose claim was entered.
 fn claim_answer<T: UseTable>(table: &T, tables: &Tables, dispatch: u8) -> Answer
-    ensures { answer_of (Ok result) ≡ (if is_open (state tables.now) dispatch then (if dispatch_waits (T.meaning table.now) (state tables.now).claims dispatch then answer_waits else answer_granted) else answer_recalled) }
+    ensures { answer_of (Ok result)
+        ≡ claimant_answer (T.meaning table.now) (state tables.now) dispatch }
 {
     if !tables.is_open(dispatch) {
         Answer::Recalled
@@ -159,8 +163,8 @@ fn claim_answer<T: UseTable>(table: &T, tables: &Tables, dispatch: u8) -> Answer
     }
 }
 
-// Enters a claim of a dispatch that runs. In a continuous book a claim that is blocked is looked at for
-// cycles; one that nothing blocks adds no step of waiting, and none stood before.
+// Enters a claim of a dispatch that runs. In a continuous book a claim that is blocked is looked at
+// for cycles; one that nothing blocks adds no step of waiting, and no cycle stood before.
 pub fn enter_claim<T: UseTable, O: RecallOrder>(
     policy: &Policy<T, O>,
     tables: &mut Tables,
@@ -168,11 +172,15 @@ pub fn enter_claim<T: UseTable, O: RecallOrder>(
     report: &mut Report,
 ) -> Answer
     requires in_range { claim_in_range (state tables.old) claim ≡ true }
-    requires runs { dispatch_waits (T.meaning policy.now.table) (state tables.old).claims claim.dispatch ≡ false }
+    requires runs { dispatch_waits (T.meaning policy.now.table) (state tables.old).claims
+        claim.dispatch ≡ false }
     requires room { length (state tables.old).claims < CLAIMS }
-    requires clear { (state tables.old).detection ≡ ModelContinuous → NoCycle (T.meaning policy.now.table) (state tables.old) }
+    requires clear { (state tables.old).detection ≡ ModelContinuous
+        → NoCycle (T.meaning policy.now.table) (state tables.old) }
     requires empty { report.old ≡ report_of [] [] }
-    ensures { EntersClaim (T.meaning policy.now.table) (O.meaning policy.now.order) (state tables.old) claim result report.new (state tables.new) }
+    ensures { EntersClaim (T.meaning policy.now.table) (O.meaning policy.now.order)
+        (state tables.old) claim
+        result report.new (state tables.new) }
 {
     let blocked = tables.claims.is_blocked(&policy.table, claim);
     tables.enter(claim);

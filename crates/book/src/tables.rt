@@ -14,8 +14,8 @@ use model::limits::{CLAIMS, DISPATCHES, HEAVIEST, SECTIONS};
 use model::state::{Claim, Condition, Detection, OpenEntry};
 use uses::table::UseTable;
 
-/// The open list, the recalled set and the claim table, and when cycles are looked for. The use table is
-/// lent to what needs it.
+/// The open list, the recalled set and the claim table, and when cycles are looked for. The use
+/// table is lent to what needs it.
 #[derive(Drop)]
 pub struct Tables {
     pub(crate) detection: Detection,
@@ -23,7 +23,12 @@ pub struct Tables {
     pub(crate) recalled: DispatchSet,
     pub(crate) claims: ClaimTable,
     // the parts fit one another
-    ghost consistent: { IsConsistent (record { opened = opened; recalled = contains recalled; claims = claims; detection = detection }) },
+    ghost consistent: { IsConsistent (record {
+      opened = opened;
+      recalled = contains recalled;
+      claims = claims;
+      detection = detection;
+    }) },
 }
 
 // The dispatch number, if it is one.
@@ -130,7 +135,8 @@ impl Tables {
 
     // May the dispatch be opened with this weight?
     pub(crate) fn check_open(&self, dispatch: u32, weight: u32) -> Result<OpenEntry, Refusal>
-        ensures { IsChecked result (open_checks (state self.now) dispatch weight) (λ e. e ≡ record { dispatch = dispatch; weight = weight }) }
+        ensures { IsChecked result (open_checks (state self.now) dispatch weight)
+            (λ e. e ≡ record { dispatch = dispatch; weight = weight }) }
     {
         let newcomer = number(dispatch)?;
         if weight > HEAVIEST {
@@ -164,7 +170,8 @@ impl Tables {
 
     // Is the dispatch open, and does it run?
     pub(crate) fn check_close<T: UseTable>(&self, table: &T, dispatch: u32) -> Result<u8, Refusal>
-        ensures { IsChecked result (close_checks (T.meaning table.now) (state self.now) dispatch) (λ n. n ≡ dispatch) }
+        ensures { IsChecked result (close_checks (T.meaning table.now) (state self.now) dispatch)
+            (λ n. n ≡ dispatch) }
     {
         let number = self.check_withdraw(dispatch)?;
         if self.claims.waits(table, number) {
@@ -181,7 +188,9 @@ impl Tables {
         section: u32,
         mode: u32,
     ) -> Result<Claim, Refusal>
-        ensures { IsChecked result (entry_checks (T.meaning table.now) (state self.now) dispatch section mode) (λ c. c ≡ record { dispatch = dispatch; section = section; mode = mode }) }
+        ensures { IsChecked result
+            (entry_checks (T.meaning table.now) (state self.now) dispatch section mode)
+            (λ c. c ≡ record { dispatch = dispatch; section = section; mode = mode }) }
     {
         let claimant = number(dispatch)?;
         let section = section_number(section)?;
@@ -204,7 +213,8 @@ impl Tables {
 
     // Is the dispatch recalled?
     pub(crate) fn check_acknowledge(&self, dispatch: u32) -> Result<u8, Refusal>
-        ensures { IsChecked result (acknowledge_checks (state self.now) dispatch) (λ n. n ≡ dispatch) }
+        ensures { IsChecked result (acknowledge_checks (state self.now) dispatch)
+            (λ n. n ≡ dispatch) }
     {
         let number = number(dispatch)?;
         if !self.recalled.contains(number) {

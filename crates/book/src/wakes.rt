@@ -19,7 +19,8 @@ fn name_if_woken<T: UseTable>(
 )
     requires small { dispatch < DISPATCHES }
     requires room { report.old.recalled + report.old.woken < DISPATCHES }
-    ensures named { NamesWoken (T.meaning table.now) (state tables.now) (dispatch ∷ []) before.now report.old report.new }
+    ensures named { NamesWoken (T.meaning table.now) (state tables.now) (dispatch ∷ [])
+        before.now report.old report.new }
     ensures recalled { report.new.recalled ≡ report.old.recalled }
     ensures one { report.new.woken ≤ report.old.woken + 1 }
 {
@@ -40,7 +41,9 @@ pub fn name_all_woken<T: UseTable>(
 )
     requires none { report.old.woken ≡ 0 }
     requires room { report.old.recalled + length (state tables.now).opened ≤ DISPATCHES }
-    ensures { NamesWoken (T.meaning table.now) (state tables.now) (numbers (state tables.now).opened) before.now report.old report.new }
+    ensures { NamesWoken (T.meaning table.now) (state tables.now)
+        (numbers (state tables.now).opened)
+        before.now report.old report.new }
 {
     for e in tables.opened.rows() {
         name_if_woken(table, tables, before, e.dispatch, report);
@@ -51,7 +54,9 @@ pub fn name_all_woken<T: UseTable>(
 pub fn end<T: UseTable>(table: &T, tables: &mut Tables, dispatch: u8, report: &mut Report)
     requires { report.old ≡ report_of [] [] }
     ensures after { state tables.new ≡ state_without dispatch (state tables.old) }
-    ensures named { report.new ≡ report_of [] (woken (T.meaning table.now) (state tables.old) (state_without dispatch (state tables.old))) }
+    ensures named { report.new ≡ report_of []
+        (woken (T.meaning table.now) (state tables.old)
+        (state_without dispatch (state tables.old))) }
 {
     let before = tables.claims.waiting_sections(table);
     tables.take_out(dispatch);

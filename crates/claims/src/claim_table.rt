@@ -7,10 +7,9 @@ ghost use Rattle.model.specs.Search.{any};
 ghost use Rattle.claims.specs.ClaimTable.{AreWaitingSections, or_waiting_section};
 ghost use Rattle.claims.specs.Rows.{relation};
 
-use crate::blocking;
-use crate::cycles;
 use crate::cycles::Rows;
 use crate::in_line::{InLine, Line};
+use crate::{blocking, cycles};
 use dispatch_set::DispatchSet;
 use fixed_list::FixedList;
 use model::limits::{CLAIMS, DISPATCHES};
@@ -18,8 +17,8 @@ use model::state::Claim;
 use std::marker::Model;
 use uses::table::UseTable;
 
-/// The claims of a book, in order of arrival: at most 512, each of a dispatch number. The use table is
-/// lent to each question that needs it.
+/// The claims of a book, in order of arrival: at most 512, each of a dispatch number. The use table
+/// is lent to each question that needs it.
 #[derive(Drop)]
 pub struct ClaimTable {
     list: FixedList<Claim, CLAIMS>,
@@ -134,7 +133,7 @@ impl ClaimTable {
             .map(|c| c.claim.section)
     }
 
-    /// For each dispatch number, the section of the claim for which the dispatch waits, if it waits.
+    /// For each dispatch, the section of the claim for which it waits, if it waits.
     pub fn waiting_sections<T: UseTable>(&self, table: &T) -> [Option<u16>; DISPATCHES]
         ensures { AreWaitingSections (T.meaning table.now) self.now result }
     {
@@ -183,7 +182,8 @@ impl ClaimTable {
 
     /// The dispatches that are on a cycle of waits.
     pub fn on_cycles<T: UseTable>(&self, table: &T) -> DispatchSet
-        ensures { (d : ℕ) → IsTrue (contains result d) ↔ OnCycle (waits_for (T.meaning table.now) self.now) d }
+        ensures { (d : ℕ) → IsTrue (contains result d)
+            ↔ OnCycle (waits_for (T.meaning table.now) self.now) d }
     {
         cycles::on_cycles(self.waits_for_rows(table))
     }

@@ -1,5 +1,5 @@
-// Who is on a cycle of a relation on the dispatch numbers, given as a row for each number: the set of
-// the numbers to which a step leads.
+// Who is on a cycle of a relation on the dispatch numbers, given as a row for each number: the set
+// of the numbers to which a step leads.
 ghost use Rattle.std.specs.Prelude.{◌≡◌, ℕ, ◌<◌, ◌&&◌, ◌||◌, ◌↔◌, IsTrue};
 ghost use Rattle.std.specs.List.{range_with_len};
 ghost use Rattle.dispatch_set.specs.DispatchSet.{contains};

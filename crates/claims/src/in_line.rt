@@ -29,7 +29,8 @@ impl<'a> Model for InLine<'a> {
 
     ghost view = { λ p. record { earlier = p.earlier.now; claim = p.claim } };
 
-    ghost invariant = { λ p. (p.claim.dispatch < DISPATCHES) × All (λ c. c.dispatch < DISPATCHES) p.earlier.now };
+    ghost invariant = { λ p. (p.claim.dispatch < DISPATCHES)
+        × All (λ c. c.dispatch < DISPATCHES) p.earlier.now };
 }
 
 impl<'a> InLine<'a> {
@@ -42,7 +43,9 @@ impl<'a> InLine<'a> {
 
     // The dispatches whose earlier claims block the claim.
     pub fn blockers<T: UseTable>(&self, table: &T) -> DispatchSet
-        ensures { contains result ≡ (λ e. any (λ b. of e b && blocking (T.meaning table.now) b self.now.claim) self.now.earlier) }
+        ensures { contains result
+            ≡ (λ e. any (λ b. of e b && blocking (T.meaning table.now) b self.now.claim)
+            self.now.earlier) }
     {
         let mut found = DispatchSet::none();
         for b in self.earlier {

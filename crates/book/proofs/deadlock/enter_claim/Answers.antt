@@ -40,5 +40,5 @@ returns g c =
     c.claim_answer.result c.recall_all.new.report (state c.recall_all.new.tables) c.waiting_sections-before.result
     (and_parts _ _ c.requires.in_range).0 (sym (ap (λ (s : State). s.detection) c.enter.ensures) ∙ c.in-Continuous.is)
     (subst (λ (s : State). AreWaitingSections u s.claims c.waiting_sections-before.result) c.enter.ensures c.waiting_sections-before.ensures) c.claim_answer.ensures
-    (subst (λ (r : Recalled). ReportsRecalls u r (set c.waiting_sections-before.result c.args.claim.dispatch None) c.recall_all.new.report) same c.recall_all.ensures.reported)
+    (subst (λ (x : State). ReportsRecalls g.T.UseTable.meaning g.O.RecallOrder.meaning c.args.policy.now x (set c.waiting_sections-before.result c.args.claim.dispatch None) c.recall_all.new.report) c.enter.ensures c.recall_all.ensures.reported)
     (c.recall_all.ensures.after ∙ ap (λ (r : Recalled). r.state) same)

@@ -12,6 +12,6 @@ returns-then-is_none g c =
     let s = state c.args.tables.now in
     let none = recall_result-nobody u o (g.met.O.RecallOrder.lawful c.args.policy.now.order) s c.args.tables.now.consistent (sym c.victim-found.ensures ∙ none_is c.victim-found.result c.if-is_none.ensures) in
     record {
-      after = sym (ap (λ (r : Recalled). r.state) none);
+      left = sym (ap (λ (r : Recalled). r.state) none);
       reported = c.requires.empty ∙ report-nobody u s (recall_result u o s) none;
     }

@@ -16,7 +16,7 @@ swept_now g c =
     let b = c.args.self.now in
     let u = g.T.UseTable.meaning b.policy.table in
     let o = g.O.RecallOrder.meaning b.policy.order in
-    carried_accepted u o (state b.tables) call.Sweep answer.Ok (swept (recall_result u o (state b.tables))) c.sweep.new.report (state c.sweep.new.tables) refl refl refl c.sweep.ensures.reported c.sweep.ensures.after
+    carried_accepted u o (state b.tables) call.Sweep answer.Ok (swept (recall_result u o (state b.tables))) c.sweep.new.report (state c.sweep.new.tables) refl refl refl c.sweep.ensures.reported c.sweep.ensures.left
 
 pub invariant_of-self : goal.invariant_of-self
 invariant_of-self g c =
