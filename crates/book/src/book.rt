@@ -224,7 +224,7 @@ impl<T: UseTable, O: RecallOrder> Book<T, O> {
     }
 
     /// Carries out any call, by its own checks. Every run of calls that has led to the book goes on
-    /// lawfully: the run with this call and this outcome added keeps exclusion, progress and recall.
+    /// lawfully: with this call and this outcome added it keeps exclusion, progress and recall.
     pub fn carry_out(&mut self, asked: Call, report: &mut Report) -> Result<Answer, Refusal>
         ensures done { CarriesOut T.meaning O.meaning self.old asked result report.new self.new }
         ensures law { KeepsLaw T.meaning O.meaning self.old asked result report.new self.new }
