@@ -1,10 +1,11 @@
 -- The six calls: what each answers, whom it recalls and wakes, and the state it leaves. `u` is the meaning of the use table, `o` that of the recall order.
-use Rattle.std.specs.Prelude.{ℕ, Bool, if◌then◌else◌, not, ◌&&◌, List, [], ◌∷◌, ◌++◌, map, length, take, replicate, Some, None, filter, Option, ◌==◌, nat_eq, nat_le, nat_lt}
+use Rattle.std.specs.Prelude.{ℕ, Bool, if◌then◌else◌, not, ◌&&◌, List, [], ◌∷◌, ◌++◌, map, length, Some, None, filter, Option, ◌==◌, nat_eq, nat_le, nat_lt}
 use Rattle.uses.specs.Relations.{Relations}
 use Rattle.model.specs.Search.{any}
 use Rattle.model.specs.Claims.{dispatch_waits, is_covered}
 use Rattle.model.specs.State.{State, numbers, is_open, is_free, state_without, state_with_claim}
 use Rattle.model.specs.Recalling.{Order, entry_of, Recalled, nobody, recall_result}
+pub use Rattle.model.specs.Report.{places, report_of}
 use Rattle.model.specs.declared.call.Call.{Call}
 use Rattle.model.specs.declared.limits.TheConstants.{DISPATCHES, SECTIONS, CLAIMS, HEAVIEST}
 use Rattle.model.specs.declared.call.Call.TheVariants as call
@@ -187,19 +188,6 @@ with_wakes u s e = record { state = e.state; answer = e.answer; recalls = e.reca
 -- a call in a state
 unfoldable pub step : Relations → Order → State → Call → Outcome
 step u o s c = with_wakes u s (effect_by u o s c (refusal (checks u s c)))
-
--- 64 places: the given, and then unused ones
-abbrev pub places : ℕ → List ℕ → List ℕ
-places unused ns = take 64 (ns ++ replicate 64 unused)
-
--- a report of the recalled and the woken
-abbrev pub report_of : List ReportEntry → List ReportEntry → Report
-report_of recalls wakes = record {
-  recalled = length recalls;
-  woken = length wakes;
-  dispatches = places 255 (map (λ n. n.dispatch) (recalls ++ wakes));
-  sections = places 65535 (map (λ n. n.section) (recalls ++ wakes));
-}
 
 -- the report of a call
 abbrev pub report : Outcome → Report

@@ -3,6 +3,7 @@ pub mod Graph
 pub mod Claims
 pub mod State
 pub mod Recalling
+pub mod Report
 pub mod Calls
 pub mod Questions
 pub mod Runs
