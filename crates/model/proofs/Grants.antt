@@ -9,7 +9,7 @@ use Rattle.model.specs.State.{State, numbers, is_open, state_without, state_with
 use Rattle.model.specs.Recalling.{Order, entry_of, recall_result}
 use Rattle.model.specs.Calls.{answer_granted, answer_covered, checks, refusal, Effect, after_entry, accepted, woken, step}
 use Rattle.model.specs.Invariant.{WellFormed, Invariant}
-use Rattle.model.specs.Runs.{Run, start, next, at, names, Grants, by_grant, by_cover, by_wake, Granted, just_now, before}
+use Rattle.model.specs.Runs.{Run, start, next, at, Names, Grants, by_grant, by_cover, by_wake, HasGrant, just_now, before}
 use Rattle.model.specs.Law.{IsEntered, Exclusion}
 use Rattle.model.specs.declared.call.Call.{Call}
 use Rattle.model.specs.declared.call.Call.TheVariants as call
@@ -131,7 +131,7 @@ module _ (u : Relations) (laws : UseLaws u) (o : Order) (lawful : OrderLaws o) (
       (λ new a. absurd (subst IsEntered a (answers_entered u d (after_entry u o s.detection (state_with_claim (asked d section mode) s))))))
 
   -- whoever is named as woken runs
-  woken_runs : (t : State) (d section : ℕ) → names (woken u s t) d section → dispatch_waits u t.claims d ≡ false
+  woken_runs : (t : State) (d section : ℕ) → Names (woken u s t) d section → dispatch_waits u t.claims d ≡ false
   woken_runs t d section h =
       let q : ℕ → Bool = λ x. dispatch_waits u s.claims x && not (dispatch_waits u t.claims x) in
       let named_so : ReportEntry → Bool = λ n. eqb n.dispatch d && eqb n.section section in
@@ -151,7 +151,7 @@ module _ (u : Relations) (laws : UseLaws u) (o : Order) (lawful : OrderLaws o) (
       laws.reflexive mode (grind (arith, nat_tests, found.1, found.2))
 
   -- whoever is named as woken is backed for the claim that waited
-  woken_backed : (c : Call) (d section mode : ℕ) → names (step u o s c).wakes d section → claim_waits u s.claims d section mode ≡ true → is_open (step u o s c).state d ≡ true → backed u (step u o s c).state.claims d section mode ≡ true
+  woken_backed : (c : Call) (d section mode : ℕ) → Names (step u o s c).wakes d section → claim_waits u s.claims d section mode ≡ true → is_open (step u o s c).state d ≡ true → backed u (step u o s c).state.claims d section mode ≡ true
   unfolding step
   woken_backed c d section mode h waited here =
       let t = (step u o s c).state in
@@ -178,7 +178,7 @@ module _ (u : Relations) (laws : UseLaws u) (o : Order) (lawful : OrderLaws o) w
       woken_backed u laws o lawful (at u o r) (run_invariant r).well_formed c d section mode n waited here
 
   -- what was granted since opening is backed
-  pub granted_since_backed : {r : Run} {d section mode : ℕ} → Granted u o r d section mode → backed u (at u o r).claims d section mode ≡ true
+  pub granted_since_backed : {r : Run} {d section mode : ℕ} → HasGrant u o r d section mode → backed u (at u o r).claims d section mode ≡ true
   granted_since_backed {d = d} {section = section} {mode = mode} (just_now {r = r} {c = c} g here) = grants_backed r c d section mode g here
   granted_since_backed {d = d} {section = section} {mode = mode} (before {r = r} {c = c} g here) =
       (step_carries u o lawful (at u o r) (run_invariant r).well_formed c).backs d section mode here (granted_since_backed g)

@@ -7,12 +7,12 @@ use Rattle.std.proofs.lemmas.Bool.Decides.{nat_tests}
 use Rattle.uses.specs.Relations.{Relations}
 use Rattle.orders.specs.Laws.{OrderLaws}
 use Rattle.model.specs.Search.{any, member}
-use Rattle.model.specs.Graph.{OnCycle, CycleStands, on_cycle}
+use Rattle.model.specs.Graph.{OnCycle, HasCycle, on_cycle}
 use Rattle.model.specs.Claims.{of, without, waits_for}
 use Rattle.model.specs.State.{State, numbers, is_open, recall}
 use Rattle.model.specs.Recalling.{Order, Recalled, summary, strictly_before, unbeaten, first, on_cycles, recall_and, recall_result_within, recall_result}
 use Rattle.model.specs.Invariant.{NoCycle}
-use Rattle.model.specs.Law.{once_recalled}
+use Rattle.model.specs.Law.{once_recalled, IsRightVictim}
 use Rattle.model.specs.declared.report.ReportEntry.{ReportEntry}
 use Rattle.model.specs.declared.state.Claim.{Claim}
 use Rattle.model.proofs.Graphs.{on_cycle_exact, first_step}
@@ -131,20 +131,16 @@ module _ (u : Relations) (o : Order) where
   recalls_some (next cycle best rest) d c e = cc
 
   -- where somebody is recalled, a cycle stood
-  pub recalls_cycle : {s t : State} {ns : List ReportEntry} → Recalls u o s ns t → (ns ≡ [] → ⊥) → CycleStands (waits_for u s.claims)
+  pub recalls_cycle : {s t : State} {ns : List ReportEntry} → Recalls u o s ns t → (ns ≡ [] → ⊥) → HasCycle (waits_for u s.claims)
   recalls_cycle (done clear) some = absurd (some refl)
   recalls_cycle (next {n = n} cycle best rest) some = (n.dispatch, cycle)
 
-  -- the dispatch is on a cycle, and nobody on a cycle goes strictly before it
-  abbrev pub Right : State → ℕ → Type 0
-  Right s d = OnCycle (waits_for u s.claims) d × ((e : ℕ) → OnCycle (waits_for u s.claims) e → strictly_before u o s e d ≡ false)
-
   -- each of the named was the right one just before its recall
-  pub recalls_right : {s t : State} {ns : List ReportEntry} → Recalls u o s ns t → (earlier later : List ReportEntry) (n : ReportEntry) → ns ≡ earlier ++ n ∷ later → Right (once_recalled earlier s) n.dispatch
+  pub recalls_right : {s t : State} {ns : List ReportEntry} → Recalls u o s ns t → (earlier later : List ReportEntry) (n : ReportEntry) → ns ≡ earlier ++ n ∷ later → IsRightVictim u o (once_recalled earlier s) n.dispatch
   recalls_right (done clear) earlier later n e = absurd (some_after earlier n later e)
   recalls_right {s} (next {n = k} cycle best rest) [] later n e =
-      let same : k ≡ n = cc in subst (λ (m : ReportEntry). Right s m.dispatch) same (cycle, best)
+      let same : k ≡ n = cc in subst (λ (m : ReportEntry). IsRightVictim u o s m.dispatch) same (record { on_cycle = cycle; none_before = best })
   recalls_right {s} (next {n = k} {ns = ks} cycle best rest) (m ∷ ms) later n e =
       let same : k ≡ m = cc in
       let tail : ks ≡ ms ++ n ∷ later = cc in
-      subst (λ (j : ReportEntry). Right (once_recalled ms (recall j.dispatch s)) n.dispatch) same (recalls_right rest ms later n tail)
+      subst (λ (j : ReportEntry). IsRightVictim u o (once_recalled ms (recall j.dispatch s)) n.dispatch) same (recalls_right rest ms later n tail)

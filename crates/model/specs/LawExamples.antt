@@ -3,7 +3,7 @@ use Rattle.std.specs.Prelude.{◌&&◌, ◌||◌, ◌==◌}
 use Rattle.uses.specs.Relations.{Relations}
 use Rattle.uses.specs.TwoUses.{two_uses}
 use Rattle.orders.specs.Orders.{newest}
-use Rattle.model.specs.Runs.{Run, start, next, at, Granted}
+use Rattle.model.specs.Runs.{Run, start, next, at, HasGrant}
 use Rattle.model.specs.Law.{Exclusion, WaitsEnd}
 use Rattle.model.specs.Examples.{look, move}
 use Rattle.model.specs.declared.call.Call.TheVariants.{Open, Claim}
@@ -38,15 +38,15 @@ one_sided_run = next (next (next (next (start Continuous) (Open 1 5)) (Open 2 5)
 -- who was granted what, and where the law is broken
 pub record LawExamplesRight : Type 0 where
   -- granted by the answer, and held since
-  pub by_answer : Granted two_uses newest (two_stations_run Continuous) 1 10 move
+  pub by_answer : HasGrant two_uses newest (two_stations_run Continuous) 1 10 move
   -- granted by being woken
-  pub by_waking : Granted two_uses newest (two_stations_run Continuous) 1 11 move
+  pub by_waking : HasGrant two_uses newest (two_stations_run Continuous) 1 11 move
   -- granted since it is covered
-  pub by_covering : Granted two_uses newest covered_run 1 10 look
+  pub by_covering : HasGrant two_uses newest covered_run 1 10 look
   -- who was recalled has nothing granted any more
-  pub not_recalled : Granted two_uses newest (two_stations_run Continuous) 2 11 move → ⊥
+  pub not_recalled : HasGrant two_uses newest (two_stations_run Continuous) 2 11 move → ⊥
   -- who waits has not been granted what it waits for
-  pub not_waiting : Granted two_uses newest (two_stations_run Periodic) 1 11 move → ⊥
+  pub not_waiting : HasGrant two_uses newest (two_stations_run Periodic) 1 11 move → ⊥
   -- exclusion is broken where conflict is not symmetric
   pub exclusion_broken : Exclusion one_sided newest one_sided_run → ⊥
   -- waits do not end where a cycle stands

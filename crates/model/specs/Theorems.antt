@@ -1,5 +1,5 @@
 -- The theorems, each for every use table and every recall order that keeps its laws.
-use Rattle.std.specs.Prelude.{◌≡◌, ℕ, ◌+◌, ◌≤◌, Bool, true, false, List, [], ◌∷◌, ◌++◌, length, Some, Decides, filter}
+use Rattle.std.specs.Prelude.{◌≡◌, ℕ, ◌+◌, ◌≤◌, ◌↔◌, Bool, true, false, List, [], ◌∷◌, ◌++◌, length, Some, Decides, filter}
 use Rattle.std.specs.List.{AllByRecursion}
 use Rattle.uses.specs.Relations.{Relations, UseLaws}
 use Rattle.orders.specs.Laws.{OrderLaws}
@@ -12,7 +12,7 @@ use Rattle.model.specs.Calls.{step, answer_refused}
 use Rattle.model.specs.Invariant.{WellFormed, Invariant}
 use Rattle.model.specs.Firsts.{IsFirst}
 use Rattle.model.specs.Runs.{Run}
-use Rattle.model.specs.Law.{Law, Iff}
+use Rattle.model.specs.Law.{Law}
 use Rattle.model.specs.Examples.{examples, Right}
 use Rattle.model.specs.declared.call.Call.{Call}
 use Rattle.model.specs.declared.call.Call.TheVariants as call
@@ -42,7 +42,7 @@ StepsLeadToOpen =
 -- the first of a set of open dispatches is the one that nobody of the set goes strictly before, of greatest standing among several; so there is only one
 abbrev pub FirstExact : Type 0
 FirstExact =
-    (u : Relations) (o : Order) → OrderLaws o → (s : State) → WellFormed u s → (among : ℕ → Bool) (d : ℕ) → Iff (first u o s (filter among (numbers s.opened)) ≡ Some d) (IsFirst u o s (filter among (numbers s.opened)) d)
+    (u : Relations) (o : Order) → OrderLaws o → (s : State) → WellFormed u s → (among : ℕ → Bool) (d : ℕ) → (first u o s (filter among (numbers s.opened)) ≡ Some d) ↔ IsFirst u o s (filter among (numbers s.opened)) d
 
 -- who is recalled and who is woken by one call are together at most 64
 abbrev pub ReportFits : Type 0
