@@ -7,7 +7,7 @@ use Rattle.orders.specs.Laws.{OrderLaws}
 use Rattle.model.specs.Claims.{in_line, of, waits, dispatch_waits, is_covered, claim_waits}
 use Rattle.model.specs.State.{State, numbers, is_open, state_without, state_with_claim, recall}
 use Rattle.model.specs.Recalling.{Order, entry_of, recall_result}
-use Rattle.model.specs.Calls.{answer_granted, answer_covered, checks, refusal, Effect, after_entry, accepted, woken, step}
+use Rattle.model.specs.Calls.{answer_granted, answer_covered, checks, refusal, Effect, after_entry, claim_of, accepted, woken, step}
 use Rattle.model.specs.Invariant.{WellFormed, Invariant}
 use Rattle.model.specs.Runs.{Run, start, next, at, Names, Grants, by_grant, by_cover, by_wake, HasGrant, just_now, before}
 use Rattle.model.specs.Law.{IsEntered, Exclusion}
@@ -22,7 +22,7 @@ use Rattle.model.proofs.ClaimLists.{backed, backed_push, backed_without, backed_
 use Rattle.model.proofs.Numbers.{open_closed, any_passes}
 use Rattle.model.proofs.Recalls.{Recalls, done, next as then, recalling_recalls}
 use Rattle.model.proofs.Keeps.{grounded}
-use Rattle.model.proofs.Steps.{asked, effect_cases, claim_cases, answers_entered, passed_claim, entry_kept, new_invariant, step_invariant}
+use Rattle.model.proofs.Steps.{effect_cases, claim_cases, answers_entered, passed_claim, entry_kept, new_invariant, step_invariant}
 
 -- from the first state to the second, who is open at the end keeps what backs and what covers
 pub record Carries (u : Relations) (s t : State) : Type 0 where
@@ -93,7 +93,7 @@ module _ (u : Relations) (o : Order) (lawful : OrderLaws o) (s : State) (w : Wel
   accepted_carries (call.Open d weight) h = same_carries u s (accepted u o s (call.Open d weight)).state refl
   accepted_carries (call.Claim d section mode) h =
       claim_cases u o s d section mode (λ e. Carries u s e.state) (λ _. same_carries u s s refl)
-      (λ new. claimed_carries (asked d section mode) (entry_kept u o lawful s w d section mode (passed_claim u s d section mode h) new))
+      (λ new. claimed_carries (claim_of d section mode) (entry_kept u o lawful s w d section mode (passed_claim u s d section mode h) new))
   accepted_carries (call.Close d) h = taken_out_carries u s d
   accepted_carries (call.Withdraw d) h = taken_out_carries u s d
   accepted_carries (call.Acknowledge d) h = same_carries u s (accepted u o s (call.Acknowledge d)).state refl
@@ -109,7 +109,7 @@ module _ (u : Relations) (laws : UseLaws u) (o : Order) (lawful : OrderLaws o) (
   granted_backed : (d section mode : ℕ) → (step u o s (call.Claim d section mode)).answer ≡ answer_granted → is_open (step u o s (call.Claim d section mode)).state d ≡ true → backed u (step u o s (call.Claim d section mode)).state.claims d section mode ≡ true
   unfolding step
   granted_backed d section mode =
-      let c = asked d section mode in
+      let c = claim_of d section mode in
       let P : Effect → Type 0 = λ e. e.answer ≡ answer_granted → is_open e.state d ≡ true → backed u e.state.claims d section mode ≡ true in
       effect_cases u o s (call.Claim d section mode) P (λ n h a. cc)
       (λ h. claim_cases u o s d section mode P (λ k a. cc)
@@ -128,7 +128,7 @@ module _ (u : Relations) (laws : UseLaws u) (o : Order) (lawful : OrderLaws o) (
       let P : Effect → Type 0 = λ e. e.answer ≡ answer_covered → backed u e.state.claims d section mode ≡ true in
       effect_cases u o s (call.Claim d section mode) P (λ n h a. cc)
       (λ h. claim_cases u o s d section mode P (λ k a. backed_covered u s.claims d section mode (passed_claim u s d section mode h).runs k)
-      (λ new a. absurd (subst IsEntered a (answers_entered u d (after_entry u o s.detection (state_with_claim (asked d section mode) s))))))
+      (λ new a. absurd (subst IsEntered a (answers_entered u d (after_entry u o s.detection (state_with_claim (claim_of d section mode) s))))))
 
   -- whoever is named as woken runs
   woken_runs : (t : State) (d section : ℕ) → Names (woken u s t) d section → dispatch_waits u t.claims d ≡ false

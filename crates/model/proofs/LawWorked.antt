@@ -29,7 +29,7 @@ by_covering : HasGrant two_uses newest covered_run 1 10 look
 unfolding step closure on_cycles recall_result_within recall_result
 by_covering = just_now (by_cover refl refl) refl
 
-exclusion_broken : Exclusion one_sided newest one_sided_run → ⊥
+exclusion_broken : ¬ Exclusion one_sided newest one_sided_run
 unfolding step closure on_cycles recall_result_within recall_result
 exclusion_broken h =
     false≢true (sym (h 2 1 7 move look (λ e. omega (arith, e)) (just_now (by_grant refl refl) refl) (before (just_now (by_grant refl refl) refl) refl)))
@@ -38,12 +38,12 @@ by_closing : HasGrant two_uses newest (two_stations_run Periodic) 2 11 move
 unfolding step closure on_cycles recall_result_within recall_result
 by_closing = before (before (just_now (by_grant refl refl) refl) refl) refl
 
-not_recalled : HasGrant two_uses newest (two_stations_run Continuous) 2 11 move → ⊥
+not_recalled : ¬ HasGrant two_uses newest (two_stations_run Continuous) 2 11 move
 unfolding step closure on_cycles recall_result_within recall_result
 not_recalled (just_now g stays) = false≢true stays
 not_recalled (before g stays) = false≢true stays
 
-not_waiting : HasGrant two_uses newest (two_stations_run Periodic) 1 11 move → ⊥
+not_waiting : ¬ HasGrant two_uses newest (two_stations_run Periodic) 1 11 move
 not_waiting h = false≢true (sym ((law two_uses laws newest order (two_stations_run Periodic)).exclusion.1 1 2 11 move move (λ e. omega (arith, e)) h by_closing))
   where
     laws : UseLaws two_uses
@@ -62,7 +62,7 @@ goes_round : (r : ℕ → ℕ → Bool) → r 1 2 ≡ true → r 2 1 ≡ true �
 goes_round r there back zero = tt
 goes_round r there back (suc n) = (there, (back, goes_round r there back n))
 
-waits_go_on : WaitsEnd two_uses (at two_uses newest (two_stations_run Periodic)) → ⊥
+waits_go_on : ¬ WaitsEnd two_uses (at two_uses newest (two_stations_run Periodic))
 unfolding step closure on_cycles recall_result_within recall_result
 waits_go_on h = omega (arith, h.short 1 (around 32) (refl, goes_round (waits_for two_uses (at two_uses newest (two_stations_run Periodic)).claims) refl refl 32))
 

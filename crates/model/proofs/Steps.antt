@@ -7,13 +7,14 @@ use Rattle.orders.specs.Laws.{OrderLaws}
 use Rattle.model.specs.Claims.{without, waits_for, dispatch_waits, is_covered}
 use Rattle.model.specs.State.{State, new, is_open, state_without, state_with_claim}
 use Rattle.model.specs.Recalling.{Order, Recalled, recall_result}
-use Rattle.model.specs.Calls.{answer_granted, answer_covered, answer_waits, answer_recalled, answer_refused, checks, refusal, Effect, plain, claimed, claim_answer, is_named, after_entry, accepted, effect_by, step}
+-- the claim of a call, under the name that proofs above cite
+pub use Rattle.model.specs.Calls.{claim_of as asked}
+use Rattle.model.specs.Calls.{answer_granted, answer_covered, answer_waits, answer_recalled, answer_refused, checks, refusal, Effect, plain, claimed, claim_answer, is_named, after_entry, claim_of, accepted, effect_by, step}
 use Rattle.model.specs.Invariant.{claim_in_range, WellFormed, Invariant}
 use Rattle.model.specs.Law.{IsEntered, EntersClaim, once_entered}
 use Rattle.model.specs.declared.call.Call.{Call}
 use Rattle.model.specs.declared.call.Call.TheVariants as call
 use Rattle.model.specs.declared.report.ReportEntry.{ReportEntry}
-use Rattle.model.specs.declared.state.Claim.{Claim}
 use Rattle.model.specs.declared.state.Detection.{Detection}
 use Rattle.model.specs.declared.state.Detection.TheVariants.{Continuous, Periodic}
 use Rattle.model.proofs.Graphs.{leads_wider, first_step}
@@ -29,18 +30,14 @@ effect_cases u o s c P refused passed = by_refusal (refusal (checks u s c)) refl
     by_refusal None e = passed e
     by_refusal (Some n) e = refused n e
 
--- the claim that a call asks for
-abbrev pub asked : ℕ → ℕ → ℕ → Claim
-asked d section mode = record { dispatch = d; section = section; mode = mode }
-
 -- a claim that is not refused is covered already, or is entered
-pub claim_cases : (u : Relations) (o : Order) (s : State) (d section mode : ℕ) (P : Effect → Type 0) → (is_covered u s.claims d section mode ≡ true → P (plain s answer_covered)) → (is_covered u s.claims d section mode ≡ false → P (claimed u d (after_entry u o s.detection (state_with_claim (asked d section mode) s)))) → P (accepted u o s (call.Claim d section mode))
+pub claim_cases : (u : Relations) (o : Order) (s : State) (d section mode : ℕ) (P : Effect → Type 0) → (is_covered u s.claims d section mode ≡ true → P (plain s answer_covered)) → (is_covered u s.claims d section mode ≡ false → P (claimed u d (after_entry u o s.detection (state_with_claim (claim_of d section mode) s)))) → P (accepted u o s (call.Claim d section mode))
 claim_cases u o s d section mode =
-    cond_both (is_covered u s.claims d section mode) (plain s answer_covered) (claimed u d (after_entry u o s.detection (state_with_claim (asked d section mode) s)))
+    cond_both (is_covered u s.claims d section mode) (plain s answer_covered) (claimed u d (after_entry u o s.detection (state_with_claim (claim_of d section mode) s)))
 
 -- what a claim that is not refused has passed
 pub record PassedClaim (u : Relations) (s : State) (d section mode : ℕ) : Type 0 where
-  pub right : claim_in_range s (asked d section mode) ≡ true
+  pub right : claim_in_range s (claim_of d section mode) ≡ true
   pub known : u.known mode ≡ true
   pub runs : dispatch_waits u s.claims d ≡ false
   pub room : is_covered u s.claims d section mode ≡ false → length s.claims < 512
@@ -94,13 +91,13 @@ refused_enters call.Sweep n e = e
 
 module _ (u : Relations) (o : Order) (lawful : OrderLaws o) (s : State) (w : WellFormed u s) where
   -- the state with the claim entered is well formed
-  pub entry_kept : (d section mode : ℕ) → PassedClaim u s d section mode → is_covered u s.claims d section mode ≡ false → WellFormed u (state_with_claim (asked d section mode) s)
-  entry_kept d section mode passed new = entered_kept u s w (asked d section mode) passed.right passed.known passed.runs (passed.room new)
+  pub entry_kept : (d section mode : ℕ) → PassedClaim u s d section mode → is_covered u s.claims d section mode ≡ false → WellFormed u (state_with_claim (claim_of d section mode) s)
+  entry_kept d section mode passed new = entered_kept u s w (claim_of d section mode) passed.right passed.known passed.runs (passed.room new)
 
   -- a claim that is entered looks for cycles in a continuous book
-  looked_after_entry : (d section mode : ℕ) → WellFormed u (state_with_claim (asked d section mode) s) → (detection : Detection) → s.detection ≡ detection → Looked u o s (call.Claim d section mode) (claimed u d (after_entry u o detection (state_with_claim (asked d section mode) s)))
+  looked_after_entry : (d section mode : ℕ) → WellFormed u (state_with_claim (claim_of d section mode) s) → (detection : Detection) → s.detection ≡ detection → Looked u o s (call.Claim d section mode) (claimed u d (after_entry u o detection (state_with_claim (claim_of d section mode) s)))
   looked_after_entry d section mode kept Continuous is =
-      let t = state_with_claim (asked d section mode) s in
+      let t = state_with_claim (claim_of d section mode) s in
       looks (grounded u t kept) (recalling_recalls u o lawful t (grounded u t kept)) (inr (is, answers_entered u d (recall_result u o t)))
   looked_after_entry d section mode kept Periodic is = looks_not refl (λ e. cc) (λ k e. cc)
 
@@ -126,7 +123,7 @@ module _ (u : Relations) (o : Order) (lawful : OrderLaws o) (s : State) (w : Wel
   accepted_detection (call.Open d weight) h = refl
   accepted_detection (call.Claim d section mode) h =
       claim_cases u o s d section mode (λ e. e.state.detection ≡ s.detection) (λ _. refl)
-      (λ new. entry_detection (state_with_claim (asked d section mode) s) (entry_kept d section mode (passed_claim u s d section mode h) new) s.detection)
+      (λ new. entry_detection (state_with_claim (claim_of d section mode) s) (entry_kept d section mode (passed_claim u s d section mode h) new) s.detection)
   accepted_detection (call.Close d) h = refl
   accepted_detection (call.Withdraw d) h = refl
   accepted_detection (call.Acknowledge d) h = refl
@@ -166,7 +163,7 @@ module _ (u : Relations) (o : Order) (lawful : OrderLaws o) (s : State) (i : Inv
       record { well_formed = opening_kept u s w d weight passed.0 passed.1 passed.2 passed.3; no_cycle = i.no_cycle }
   accepted_invariant (call.Claim d section mode) h =
       claim_cases u o s d section mode (λ e. Invariant u e.state) (λ _. i)
-      (λ new. entry_invariant (state_with_claim (asked d section mode) s) (entry_kept u o lawful s w d section mode (passed_claim u s d section mode h) new) s.detection refl)
+      (λ new. entry_invariant (state_with_claim (claim_of d section mode) s) (entry_kept u o lawful s w d section mode (passed_claim u s d section mode h) new) s.detection refl)
   accepted_invariant (call.Close d) h = taken_out_invariant d
   accepted_invariant (call.Withdraw d) h = taken_out_invariant d
   accepted_invariant (call.Acknowledge d) h = record { well_formed = acknowledged_kept u s w d; no_cycle = i.no_cycle }

@@ -1,13 +1,12 @@
 -- The law over runs: exclusion, progress and recall.
 -- `u` is the meaning of the use table, `o` that of the recall order.
-use Rattle.std.specs.Prelude.{◌≡◌, ◌≢◌, ℕ, ◌<◌, true, false, ⊤, ◌⊎◌, ◌↔◌, List, [], ◌∷◌, ◌++◌}
-use Rattle.std.specs.Prelude.{length}
+use Rattle.std.specs.Prelude.{◌≡◌, ◌≢◌, ℕ, ◌<◌, true, false, ⊤, ◌⊎◌, ◌↔◌, List, [], ◌∷◌, ◌++◌, length}
 use Rattle.uses.specs.Relations.{Relations}
 use Rattle.model.specs.Graph.{OnCycle, HasCycle, Chain, end_of}
 use Rattle.model.specs.Claims.{dispatch_waits, waits_for}
 use Rattle.model.specs.State.{State, is_open, recall, state_with_claim}
 use Rattle.model.specs.Recalling.{Order, strictly_before}
-use Rattle.model.specs.Calls.{ModelAnswer, answer_granted, answer_waits, answer_recalled}
+use Rattle.model.specs.Calls.{ModelAnswer, answer_granted, answer_waits, answer_recalled, claim_of}
 use Rattle.model.specs.Runs.{Run, at, outcome, EachMoment, EachCall, HasGrant}
 use Rattle.model.specs.declared.call.Call.{Call}
 use Rattle.model.specs.declared.call.Call.TheVariants as call
@@ -29,8 +28,7 @@ EntersClaim _ a = ⊥
 
 -- the state once the call's claim, if it has one, is entered
 abbrev pub once_entered : Call → State → State
-once_entered (call.Claim d section mode) s =
-    state_with_claim (record { dispatch = d; section = section; mode = mode }) s
+once_entered (call.Claim d section mode) s = state_with_claim (claim_of d section mode) s
 once_entered _ s = s
 
 -- the state once the named are recalled, one after another

@@ -3,7 +3,8 @@ ghost use Rattle.std.specs.Prelude.{◌≡◌, ◌+◌, ◌<◌, ◌≤◌, List
 ghost use Rattle.std.specs.Fmt.{WritesOnOk};
 ghost use Rattle.std.specs.Iterator.{YieldsFirst, item_count};
 ghost use Rattle.std.specs.List.{flat_map};
-ghost use Rattle.model.specs.Report.{report_of, recalls_of, wakes_of, entry_text, entry_line, report_text};
+ghost use Rattle.model.specs.Report.{report_of, recalls_of, wakes_of};
+ghost use Rattle.model.specs.Report.{entry_text, entry_line, report_text};
 
 use crate::limits::DISPATCHES;
 use std::fmt;
@@ -90,7 +91,8 @@ impl Report {
         ensures named { result ≡ recalls_of self.now }
 
         // A report of some recalled and some woken gives the recalled back.
-        ensures given { (recalls wakes : List ReportEntry) → length recalls + length wakes ≤ DISPATCHES
+        ensures given { (recalls wakes : List ReportEntry)
+            → length recalls + length wakes ≤ DISPATCHES
             → self.now ≡ report_of recalls wakes → result ≡ recalls }
     {
         let recalled = (self.recalled as usize).min(DISPATCHES);
@@ -105,7 +107,8 @@ impl Report {
         ensures named { result ≡ wakes_of self.now }
 
         // A report of some recalled and some woken gives the woken back.
-        ensures given { (recalls wakes : List ReportEntry) → length recalls + length wakes ≤ DISPATCHES
+        ensures given { (recalls wakes : List ReportEntry)
+            → length recalls + length wakes ≤ DISPATCHES
             → self.now ≡ report_of recalls wakes → result ≡ wakes }
     {
         let recalled = (self.recalled as usize).min(DISPATCHES);
@@ -132,7 +135,8 @@ fn write_lines<W: fmt::Write>(
     entries: ReportEntries<'_>,
     f: &mut fmt::Formatter<W>,
 ) -> fmt::Result
-    ensures { WritesOnOk W.write_str_gives f.old result (flat_map (entry_line word.now) entries.entry) f.new }
+    ensures { let text = flat_map (entry_line word.now) entries.entry in
+        WritesOnOk W.write_str_gives f.old result text f.new }
 {
     for entry in entries {
         writeln!(f, "{word} {entry}")?;
