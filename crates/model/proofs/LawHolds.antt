@@ -1,7 +1,5 @@
 -- The law holds of every run.
-use Rattle.std.proofs.Common.{◌≡◌, ◌<◌, ◌≤◌, true, ◌⊎◌, ◌↔◌, ◌≢◌, List, [], ◌∷◌, ◌++◌, length, sym, ◌∙◌, subst, inl, inr, ⊎_elim, arith}
-use Rattle.std.specs.List.{list_all, AllByRecursion}
-use Rattle.std.proofs.lemmas.Bool.Decides.{nat_tests}
+use Rattle.std.proofs.Common.{◌≡◌, ◌≤◌, ◌⊎◌, ◌↔◌, ◌≢◌, List, [], ◌∷◌, ◌++◌, length, sym, ◌∙◌, subst, inl, inr, ⊎_elim, arith}
 use Rattle.std.proofs.lemmas.Bool.{cases_Bool, both_ways}
 use Rattle.std.proofs.lemmas.List.{length-map}
 use Rattle.uses.specs.Relations.{Relations, UseLaws}
@@ -10,7 +8,7 @@ use Rattle.model.specs.Claims.{waits_for, dispatch_waits}
 use Rattle.model.specs.State.{State, numbers}
 use Rattle.model.specs.Recalling.{Order}
 use Rattle.model.specs.Calls.{Effect, checks, refusal, effect_by, step}
-use Rattle.model.specs.Invariant.{entry_in_range, WellFormed, Invariant, NoCycle}
+use Rattle.model.specs.Invariant.{WellFormed, Invariant, NoCycle}
 use Rattle.model.specs.Runs.{Run, start, next, at, EachMoment, EachCall}
 use Rattle.model.specs.Graph.{HasCycle}
 use Rattle.model.specs.Law.{Exclusion, WaitsEnd, Progress, IsRightVictim, RecallWhen, RecallWhom, EntersClaim, once_entered, once_recalled, Law}
@@ -18,8 +16,7 @@ use Rattle.model.specs.declared.call.Call.{Call}
 use Rattle.model.specs.declared.call.Call.TheVariants as call
 use Rattle.model.specs.declared.report.ReportEntry.{ReportEntry}
 use Rattle.model.specs.declared.state.Detection.TheVariants.{Continuous}
-use Rattle.model.specs.declared.state.OpenEntry.{OpenEntry}
-use Rattle.model.proofs.Graphs.{at_most, chain_short, end_member}
+use Rattle.model.proofs.Graphs.{chain_short, end_member}
 use Rattle.model.proofs.ClaimLists.{waits_waits_for}
 use Rattle.model.proofs.Recalls.{some_after, steps_open, recalls_clear, recalls_some, recalls_cycle, recalls_right}
 use Rattle.model.proofs.Keeps.{grounded, consistent_few}
