@@ -13,3 +13,5 @@ pub mod Firsts
 pub mod Examples
 pub mod LawExamples
 pub mod Theorems
+pub use Rattle.uses.specs.Relations
+pub use Rattle.orders.specs.Laws

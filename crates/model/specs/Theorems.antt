@@ -1,10 +1,9 @@
 -- The theorems, each for every use table and every recall order that keeps its laws.
-use Rattle.std.specs.Prelude.{◌≡◌, ℕ, ◌+◌, ◌≤◌, ◌↔◌, Bool, true, false, List, [], ◌∷◌, ◌++◌, length, IsTrue, Some, filter}
+use Rattle.std.specs.Prelude.{◌≡◌, ℕ, ◌+◌, ◌≤◌, ◌↔◌, Bool, false, List, [], ◌∷◌, ◌++◌, length, IsTrue, Some, filter}
 use Rattle.std.specs.List.{AllByRecursion, list_any}
 use Rattle.uses.specs.Relations.{Relations, UseLaws}
 use Rattle.orders.specs.Laws.{OrderLaws}
-use Rattle.model.specs.Search.{member}
-use Rattle.model.specs.Graph.{OnCycle, on_cycle}
+use Rattle.model.specs.Graph.{OnCycle, LeadsInto, on_cycle}
 use Rattle.model.specs.Claims.{blocks, waits_for}
 use Rattle.model.specs.State.{State, new, numbers}
 use Rattle.model.specs.Recalling.{Order, first}
@@ -34,10 +33,6 @@ InvariantKept =
     (u : Relations)
     → ((detection : Detection) → Invariant u (new detection))
     × ((o : Order) → OrderLaws o → CallsKeepInvariant u o)
-
--- every step of the relation leads to a listed number
-abbrev pub LeadsInto : List ℕ → (ℕ → ℕ → Bool) → Type 0
-LeadsInto ks r = (a b : ℕ) → r a b ≡ true → member b ks ≡ true
 
 -- the test for being on a cycle agrees with the inductive definition
 abbrev pub CycleTestExact : Type 0
