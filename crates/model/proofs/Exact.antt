@@ -26,7 +26,9 @@ use Rattle.model.proofs.Steps.{Looked, looks, looks_not, looks_or_recalls_nobody
 use Rattle.model.proofs.LawHolds.{few_open}
 
 -- different open dispatches have different standings
-standing_apart : (es : List OpenEntry) (d e : ℕ) → member d (numbers es) ≡ true → member e (numbers es) ≡ true → standing es d ≡ standing es e → d ≡ e
+standing_apart :
+    (es : List OpenEntry) (d e : ℕ) → member d (numbers es) ≡ true → member e (numbers es) ≡ true
+    → standing es d ≡ standing es e → d ≡ e
 standing_apart [] d e h k same = absurd (false≢true h)
 standing_apart (x ∷ xs) d e h k same = grind (arith, nat_tests, standing_apart xs d e)
 
@@ -36,7 +38,9 @@ kept_kept p q [] = refl
 kept_kept p q (x ∷ xs) = grind (arith, kept_kept p q xs)
 
 -- a number that differs from all is not among them
-not_among : (x d : ℕ) (xs : List ℕ) → list_all (λ y. not (eqb x y)) xs ≡ true → member d xs ≡ true → eqb x d ≡ false
+not_among :
+    (x d : ℕ) (xs : List ℕ) → list_all (λ y. not (eqb x y)) xs ≡ true → member d xs ≡ true
+    → eqb x d ≡ false
 not_among x d xs h k = not-true (eqb x d) (all_pass_member (λ y. not (eqb x y)) d xs h k)
 
 -- e, if it is open and passes, has no greater standing than d
@@ -44,20 +48,28 @@ abbrev Newest : (ℕ → Bool) → List OpenEntry → ℕ → ℕ → Type 0
 Newest q es d e = member e (numbers es) ≡ true → q e ≡ true → standing es e ≤ standing es d
 
 -- one more open dispatch in front, and d behind it
-newest_behind : (q : ℕ → Bool) (x : OpenEntry) (es : List OpenEntry) (d e : ℕ) → list_all (λ y. not (eqb x.dispatch y)) (numbers es) ≡ true → member d (numbers es) ≡ true → Newest q es d e → Newest q (x ∷ es) d e
+newest_behind :
+    (q : ℕ → Bool) (x : OpenEntry) (es : List OpenEntry) (d e : ℕ)
+    → list_all (λ y. not (eqb x.dispatch y)) (numbers es) ≡ true → member d (numbers es) ≡ true
+    → Newest q es d e → Newest q (x ∷ es) d e
 newest_behind q x es d e differs there rest m t = grind (arith, nat_tests, rest, not_among x.dispatch d (numbers es) differs there, m, t)
 
 -- the last of a list is its only element, or the last of the rest
-last_cases : (y d : ℕ) (ks : List ℕ) → last (y ∷ ks) ≡ Some d → ((ks ≡ []) × (y ≡ d)) ⊎ (last ks ≡ Some d)
+last_cases :
+    (y d : ℕ) (ks : List ℕ) → last (y ∷ ks) ≡ Some d → ((ks ≡ []) × (y ≡ d)) ⊎ (last ks ≡ Some d)
 last_cases y d [] l = inl (refl, cc)
 last_cases y d (k ∷ ks) l = inr l
 
 -- the one in front is the only one who passes
-newest_alone : (q : ℕ → Bool) (x : OpenEntry) (es : List OpenEntry) (d e : ℕ) → filter q (numbers es) ≡ [] → x.dispatch ≡ d → Newest q (x ∷ es) d e
+newest_alone :
+    (q : ℕ → Bool) (x : OpenEntry) (es : List OpenEntry) (d e : ℕ) → filter q (numbers es) ≡ []
+    → x.dispatch ≡ d → Newest q (x ∷ es) d e
 newest_alone q x es d e none is m t = grind (arith, nat_tests, is, m, kept_none q e (numbers es) none t)
 
 -- the last of those who pass is open, and has the greatest standing of those who pass
-last_newest : (q : ℕ → Bool) (es : List OpenEntry) (d e : ℕ) → is_distinct eqb (numbers es) ≡ true → last (filter q (numbers es)) ≡ Some d → (member d (numbers es) ≡ true) × Newest q es d e
+last_newest :
+    (q : ℕ → Bool) (es : List OpenEntry) (d e : ℕ) → is_distinct eqb (numbers es) ≡ true
+    → last (filter q (numbers es)) ≡ Some d → (member d (numbers es) ≡ true) × Newest q es d e
 last_newest q [] d e h k = cc
 last_newest q (x ∷ xs) d e h k =
     let parts = and_parts (list_all (λ y. not (eqb x.dispatch y)) (numbers xs)) (is_distinct eqb (numbers xs)) h in
@@ -97,7 +109,8 @@ module _ (u : Relations) (o : Order) (lawful : OrderLaws o) (s : State) (w : Wel
       let down = b.newest d a.inside a.unbeaten in
       standing_apart s.opened d e (of_the_set d a.inside).1 (of_the_set e b.inside).1 (omega arith)
 
-  is_first : (d : ℕ) → IsFirst u o s ds d → (v : Option ℕ) → first u o s ds ≡ v → first u o s ds ≡ Some d
+  is_first :
+      (d : ℕ) → IsFirst u o s ds d → (v : Option ℕ) → first u o s ds ≡ v → first u o s ds ≡ Some d
   is_first d a None h = absurd (false≢true (sym (ap (member d) (first_none u o lawful s ds h)) ∙ a.inside))
   is_first d a (Some e) h = h ∙ ap Some (only_first e d (first_is e h) a)
 
@@ -107,7 +120,9 @@ first_exact u o lawful s w among d =
     (first_is u o lawful s w among d, λ a. is_first u o lawful s w among d a (first u o s (filter among (numbers s.opened))) refl)
 
 -- each recall takes one open dispatch out
-pub recalls_shorten : (u : Relations) (o : Order) {s t : State} {ns : List ReportEntry} → Recalls u o s ns t → Grounded s → length ns + length t.opened ≤ length s.opened
+pub recalls_shorten :
+    (u : Relations) (o : Order) {s t : State} {ns : List ReportEntry} → Recalls u o s ns t
+    → Grounded s → length ns + length t.opened ≤ length s.opened
 recalls_shorten u o (done clear) g = omega arith
 recalls_shorten u o {s} (next {n = n} cycle best rest) g =
     let shorter = closed_shorter n.dispatch s.opened (cycle_open u s g n.dispatch cycle) in

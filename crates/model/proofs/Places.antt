@@ -1,12 +1,15 @@
--- The places of a report, with one more name.
-use Rattle.std.proofs.Common.{◌≡◌, ℕ, zero, suc, ◌+◌, ◌<◌, ◌≤◌, List, [], ◌∷◌, ◌++◌, map, length, take, set, replicate, sym, ap, ◌∙◌, arith}
-use Rattle.std.proofs.lemmas.List.{length-map, length-append, length_push, map_push, append-nil, append_assoc, take-replicate}
-use Rattle.model.specs.Calls.{places, report_of}
+-- The places of a report, with one more name; and whom a report names.
+use Rattle.std.proofs.Common.{◌≡◌, ℕ, zero, suc, ◌+◌, ◌<◌, ◌≤◌, List, [], ◌∷◌, ◌++◌, ◌-◌, map, length, take, drop, set, replicate, sym, refl, ap, ◌∙◌, arith}
+use Rattle.std.proofs.lemmas.List.{length-map, length-append, length_push, map_push, map-append, append-nil, append_assoc, take-replicate, take-take, take_at, drop_at, drop-take}
+use Rattle.model.specs.Report.{places, report_of, entries, recalls_of, wakes_of}
 use Rattle.model.specs.declared.report.ReportEntry.{ReportEntry}
 use Rattle.model.specs.declared.report.Report.{Report}
 
 -- one more entry in the first n of some entries and m unused ones
-front_push : (n unused x : ℕ) (ns : List ℕ) (m : ℕ) → length ns < n → n ≤ length ns + m → set (take n (ns ++ replicate m unused)) (length ns) x ≡ take n ((ns ++ x ∷ []) ++ replicate m unused)
+front_push :
+    (n unused x : ℕ) (ns : List ℕ) (m : ℕ) → length ns < n → n ≤ length ns + m
+    → set (take n (ns ++ replicate m unused))
+    (length ns) x ≡ take n ((ns ++ x ∷ []) ++ replicate m unused)
 front_push zero unused x ns m room wide = absurd (omega arith)
 front_push (suc n) unused x [] zero room wide = absurd (omega arith)
 front_push (suc n) unused x [] (suc m) room wide =
@@ -14,7 +17,10 @@ front_push (suc n) unused x [] (suc m) room wide =
 front_push (suc n) unused x (y ∷ ys) m room wide = ap (λ (t : List ℕ). y ∷ t) (front_push n unused x ys m (omega arith) (omega arith))
 
 -- one more name in the 64 places
-places_push : (f : ReportEntry → ℕ) (unused : ℕ) (ns : List ReportEntry) (n : ReportEntry) (place : ℕ) → place ≡ length ns → place < 64 → set (places unused (map f ns)) place (f n) ≡ places unused (map f (ns ++ n ∷ []))
+places_push :
+    (f : ReportEntry → ℕ) (unused : ℕ) (ns : List ReportEntry) (n : ReportEntry) (place : ℕ)
+    → place ≡ length ns → place < 64
+    → set (places unused (map f ns)) place (f n) ≡ places unused (map f (ns ++ n ∷ []))
 places_push f unused ns n place is room =
     let long = length-map ns f in
     let pushed = front_push 64 unused (f n) (map f ns) 64 (omega arith) (omega arith) in
@@ -44,3 +50,56 @@ woken_push r recalls wakes n room is =
     let s = places_push (λ m. m.section) 65535 (recalls ++ wakes) n (r.recalled + r.woken) place room in
     let long = length_push wakes n in
     cc
+
+-- dispatches and sections of a list, place by place again
+entries_same :
+    (xs : List ReportEntry) → entries (map (λ x. x.dispatch) xs) (map (λ x. x.section) xs) ≡ xs
+entries_same [] = refl
+entries_same (x ∷ xs) = ap (λ (ys : List ReportEntry). x ∷ ys) (entries_same xs)
+
+-- the places of two lists, without the limit
+two_parts :
+    (f : ReportEntry → ℕ) (unused : ℕ) (xs ys : List ReportEntry)
+    → map f (xs ++ ys) ++ replicate 64 unused ≡ map f xs ++ (map f ys ++ replicate 64 unused)
+two_parts f unused xs ys =
+    ap (λ (ns : List ℕ). ns ++ replicate 64 unused) (map-append f xs ys) ∙ append_assoc (map f xs) (map f ys) (replicate 64 unused)
+
+-- the first places
+front :
+    (f : ReportEntry → ℕ) (unused : ℕ) (xs ys : List ReportEntry) → length xs + length ys ≤ 64
+    → take (length xs) (places unused (map f (xs ++ ys))) ≡ map f xs
+front f unused xs ys fits =
+    take-take (length xs) 64 (map f (xs ++ ys) ++ replicate 64 unused) (omega (arith, fits))
+    ∙ (ap (λ (ns : List ℕ). take (length xs) ns) (two_parts f unused xs ys)
+    ∙ take_at (map f xs) (map f ys ++ replicate 64 unused) (length xs) (length-map xs f))
+
+-- the places after those
+behind :
+    (f : ReportEntry → ℕ) (unused : ℕ) (xs ys : List ReportEntry) → length xs + length ys ≤ 64
+    → take (length ys) (drop (length xs) (places unused (map f (xs ++ ys)))) ≡ map f ys
+behind f unused xs ys fits =
+    ap (λ (ns : List ℕ). take (length ys) ns) (ap (λ (n : ℕ). drop (length xs) (take n all)) whole ∙ drop-take (length xs) (64 - length xs) all)
+    ∙ (take-take (length ys) (64 - length xs) (drop (length xs) all) (omega (arith, fits))
+    ∙ (ap (λ (ns : List ℕ). take (length ys) (drop (length xs) ns)) (two_parts f unused xs ys)
+    ∙ (ap (λ (ns : List ℕ). take (length ys) ns) (drop_at (map f xs) (map f ys ++ replicate 64 unused) (length xs) (length-map xs f))
+    ∙ take_at (map f ys) (replicate 64 unused) (length ys) (length-map ys f))))
+  where
+    all : List ℕ
+    all = map f (xs ++ ys) ++ replicate 64 unused
+
+    whole : ◌≡◌ {A = ℕ} 64 (length xs + (64 - length xs))
+    whole = omega (arith, fits)
+
+-- a report of some recalled and some woken names the recalled
+pub recalls_of-report_of :
+    (xs ys : List ReportEntry) → length xs + length ys ≤ 64 → recalls_of (report_of xs ys) ≡ xs
+recalls_of-report_of xs ys fits =
+    ap (λ (ns : List ℕ). entries ns (take (length xs) (places 65535 (map (λ x. x.section) (xs ++ ys))))) (front (λ x. x.dispatch) 255 xs ys fits)
+    ∙ (ap (λ (ns : List ℕ). entries (map (λ x. x.dispatch) xs) ns) (front (λ x. x.section) 65535 xs ys fits) ∙ entries_same xs)
+
+-- and the woken
+pub wakes_of-report_of :
+    (xs ys : List ReportEntry) → length xs + length ys ≤ 64 → wakes_of (report_of xs ys) ≡ ys
+wakes_of-report_of xs ys fits =
+    ap (λ (ns : List ℕ). entries ns (take (length ys) (drop (length xs) (places 65535 (map (λ x. x.section) (xs ++ ys)))))) (behind (λ x. x.dispatch) 255 xs ys fits)
+    ∙ (ap (λ (ns : List ℕ). entries (map (λ x. x.dispatch) ys) ns) (behind (λ x. x.section) 65535 xs ys fits) ∙ entries_same ys)

@@ -1,4 +1,5 @@
--- Recalling, as a relation: from one state to another the named are recalled, each the first of those on cycles, until no cycle stands.
+-- Recalling, as a relation: from one state to another the named are recalled, each the first of
+-- those on cycles, until no cycle stands.
 use Rattle.std.proofs.Common.{◌≡◌, ℕ, zero, suc, ◌≤◌, Bool, true, false, not, ◌&&◌, eqb, List, [], ◌∷◌, ◌++◌, length, Some, None, Decides, filter, Option, sym, refl, ap, ◌∙◌, subst, arith}
 use Rattle.std.proofs.ByRecursion.{kept_by_passes, all_kept_by}
 use Rattle.std.proofs.lemmas.List.{nil_from_length}
@@ -7,12 +8,12 @@ use Rattle.std.proofs.lemmas.Bool.Decides.{nat_tests}
 use Rattle.uses.specs.Relations.{Relations}
 use Rattle.orders.specs.Laws.{OrderLaws}
 use Rattle.model.specs.Search.{any, member}
-use Rattle.model.specs.Graph.{OnCycle, CycleStands, on_cycle}
+use Rattle.model.specs.Graph.{OnCycle, HasCycle, on_cycle}
 use Rattle.model.specs.Claims.{of, without, waits_for}
 use Rattle.model.specs.State.{State, numbers, is_open, recall}
 use Rattle.model.specs.Recalling.{Order, Recalled, summary, strictly_before, unbeaten, first, on_cycles, recall_and, recall_result_within, recall_result}
 use Rattle.model.specs.Invariant.{NoCycle}
-use Rattle.model.specs.Law.{once_recalled}
+use Rattle.model.specs.Law.{once_recalled, IsRightVictim}
 use Rattle.model.specs.declared.report.ReportEntry.{ReportEntry}
 use Rattle.model.specs.declared.state.Claim.{Claim}
 use Rattle.model.proofs.Graphs.{on_cycle_exact, first_step}
@@ -29,13 +30,19 @@ some_after (x ∷ xs) y ys e = cc
 abbrev pub Grounded : State → Type 0
 Grounded s = (d : ℕ) → any (of d) s.claims ≡ true → is_open s d ≡ true
 
--- from the first state to the second the named are recalled: each was on a cycle just before, nobody on a cycle went strictly before it, and at the end no cycle stands
+-- from the first state to the second the named are recalled: each was on a cycle just before,
+-- nobody on a cycle went strictly before it, and at the end no cycle stands
 pub data Recalls (u : Relations) (o : Order) : State → List ReportEntry → State → Type 0 where
   done : {s : State} → NoCycle u s → Recalls u o s [] s
-  next : {s t : State} {n : ReportEntry} {ns : List ReportEntry} → OnCycle (waits_for u s.claims) n.dispatch → ((e : ℕ) → OnCycle (waits_for u s.claims) e → strictly_before u o s e n.dispatch ≡ false) → Recalls u o (recall n.dispatch s) ns t → Recalls u o s (n ∷ ns) t
+  next :
+      {s t : State} {n : ReportEntry} {ns : List ReportEntry}
+      → OnCycle (waits_for u s.claims) n.dispatch
+      → ((e : ℕ) → OnCycle (waits_for u s.claims) e → strictly_before u o s e n.dispatch ≡ false)
+      → Recalls u o (recall n.dispatch s) ns t → Recalls u o s (n ∷ ns) t
 
 -- who has claims once a dispatch is taken out
-pub any_of_without : (x d : ℕ) (cs : List Claim) → any (of d) (without x cs) ≡ (not (eqb d x) && any (of d) cs)
+pub any_of_without :
+    (x d : ℕ) (cs : List Claim) → any (of d) (without x cs) ≡ (not (eqb d x) && any (of d) cs)
 any_of_without x d [] = grind (arith, nat_tests)
 any_of_without x d (c ∷ cs) = grind (arith, nat_tests, any_of_without x d cs)
 
@@ -85,7 +92,9 @@ module _ (u : Relations) (o : Order) (lawful : OrderLaws o) (s : State) where
       (kept_none (unbeaten u o s (x ∷ xs)) best.0 (x ∷ xs) (last_none (filter (unbeaten u o s (x ∷ xs)) (x ∷ xs)) e) best.2 best.1)
 
   -- the first of a set is in it, and nobody in it goes strictly before
-  pub first_some : (ds : List ℕ) (d : ℕ) → first u o s ds ≡ Some d → (unbeaten u o s ds d ≡ true) × (member d ds ≡ true)
+  pub first_some :
+      (ds : List ℕ) (d : ℕ) → first u o s ds ≡ Some d
+      → (unbeaten u o s ds d ≡ true) × (member d ds ≡ true)
   first_some ds d e = (
     last_all (λ x. unbeaten u o s ds x ≡ true) (filter (unbeaten u o s ds) ds) d (kept_by_passes (unbeaten u o s ds) ds) e,
     last_all (λ x. member x ds ≡ true) (filter (unbeaten u o s ds) ds) d (all_kept_by (unbeaten u o s ds) (λ x. member x ds ≡ true) ds (all_members ds)) e,
@@ -93,7 +102,11 @@ module _ (u : Relations) (o : Order) (lawful : OrderLaws o) (s : State) where
 
 module _ (u : Relations) (o : Order) (lawful : OrderLaws o) where
   -- one turn: the first of those on cycles is recalled, and the rest follows
-  turn : (s : State) (again : State → Recalled) → Grounded s → ((x : ℕ) → is_open s x ≡ true → Recalls u o (recall x s) (again (recall x s)).recalls (again (recall x s)).state) → (v : Option ℕ) → first u o s (on_cycles u s) ≡ v → Recalls u o s (recall_and u again s v).recalls (recall_and u again s v).state
+  turn :
+      (s : State) (again : State → Recalled) → Grounded s
+      → ((x : ℕ) → is_open s x ≡ true → Recalls u o (recall x s) (again (recall x s)).recalls (again (recall x s)).state)
+      → (v : Option ℕ) → first u o s (on_cycles u s) ≡ v
+      → Recalls u o s (recall_and u again s v).recalls (recall_and u again s v).state
   turn s again g rest None e =
       done (λ d c. false≢true (sym (ap (member d) (first_none u o lawful s (on_cycles u s) e)) ∙ (in_cycles u s g d).1 c))
   turn s again g rest (Some x) e =
@@ -104,7 +117,9 @@ module _ (u : Relations) (o : Order) (lawful : OrderLaws o) where
       (rest x (cycle_open u s g x cycle))
 
   -- with as many turns as open dispatches, recalling ends where no cycle stands
-  recalls_at_most : (n : ℕ) (s : State) → Grounded s → length s.opened ≤ n → Recalls u o s (recall_result_within n u o s).recalls (recall_result_within n u o s).state
+  recalls_at_most :
+      (n : ℕ) (s : State) → Grounded s → length s.opened ≤ n
+      → Recalls u o s (recall_result_within n u o s).recalls (recall_result_within n u o s).state
   unfolding recall_result_within
   recalls_at_most zero s g few =
       done
@@ -115,7 +130,9 @@ module _ (u : Relations) (o : Order) (lawful : OrderLaws o) where
       (first u o s (on_cycles u s)) refl
 
   -- recalling recalls the first of those on cycles until no cycle stands
-  pub recalling_recalls : (s : State) → Grounded s → Recalls u o s (recall_result u o s).recalls (recall_result u o s).state
+  pub recalling_recalls :
+      (s : State) → Grounded s
+      → Recalls u o s (recall_result u o s).recalls (recall_result u o s).state
   unfolding recall_result
   recalling_recalls s g = recalls_at_most (length s.opened) s g (omega arith)
 
@@ -126,25 +143,28 @@ module _ (u : Relations) (o : Order) where
   recalls_clear (next cycle best rest) = recalls_clear rest
 
   -- where a cycle stands, somebody is recalled
-  pub recalls_some : {s t : State} {ns : List ReportEntry} → Recalls u o s ns t → (d : ℕ) → OnCycle (waits_for u s.claims) d → ns ≡ [] → ⊥
+  pub recalls_some :
+      {s t : State} {ns : List ReportEntry} → Recalls u o s ns t → (d : ℕ)
+      → OnCycle (waits_for u s.claims) d → ns ≡ [] → ⊥
   recalls_some (done clear) d c e = clear d c
   recalls_some (next cycle best rest) d c e = cc
 
   -- where somebody is recalled, a cycle stood
-  pub recalls_cycle : {s t : State} {ns : List ReportEntry} → Recalls u o s ns t → (ns ≡ [] → ⊥) → CycleStands (waits_for u s.claims)
+  pub recalls_cycle :
+      {s t : State} {ns : List ReportEntry} → Recalls u o s ns t → (ns ≡ [] → ⊥)
+      → HasCycle (waits_for u s.claims)
   recalls_cycle (done clear) some = absurd (some refl)
   recalls_cycle (next {n = n} cycle best rest) some = (n.dispatch, cycle)
 
-  -- the dispatch is on a cycle, and nobody on a cycle goes strictly before it
-  abbrev pub Right : State → ℕ → Type 0
-  Right s d = OnCycle (waits_for u s.claims) d × ((e : ℕ) → OnCycle (waits_for u s.claims) e → strictly_before u o s e d ≡ false)
-
   -- each of the named was the right one just before its recall
-  pub recalls_right : {s t : State} {ns : List ReportEntry} → Recalls u o s ns t → (earlier later : List ReportEntry) (n : ReportEntry) → ns ≡ earlier ++ n ∷ later → Right (once_recalled earlier s) n.dispatch
+  pub recalls_right :
+      {s t : State} {ns : List ReportEntry} → Recalls u o s ns t
+      → (earlier later : List ReportEntry) (n : ReportEntry) → ns ≡ earlier ++ n ∷ later
+      → IsRightVictim u o (once_recalled earlier s) n.dispatch
   recalls_right (done clear) earlier later n e = absurd (some_after earlier n later e)
   recalls_right {s} (next {n = k} cycle best rest) [] later n e =
-      let same : k ≡ n = cc in subst (λ (m : ReportEntry). Right s m.dispatch) same (cycle, best)
+      let same : k ≡ n = cc in subst (λ (m : ReportEntry). IsRightVictim u o s m.dispatch) same (record { on_cycle = cycle; none_before = best })
   recalls_right {s} (next {n = k} {ns = ks} cycle best rest) (m ∷ ms) later n e =
       let same : k ≡ m = cc in
       let tail : ks ≡ ms ++ n ∷ later = cc in
-      subst (λ (j : ReportEntry). Right (once_recalled ms (recall j.dispatch s)) n.dispatch) same (recalls_right rest ms later n tail)
+      subst (λ (j : ReportEntry). IsRightVictim u o (once_recalled ms (recall j.dispatch s)) n.dispatch) same (recalls_right rest ms later n tail)

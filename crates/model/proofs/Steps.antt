@@ -7,13 +7,14 @@ use Rattle.orders.specs.Laws.{OrderLaws}
 use Rattle.model.specs.Claims.{without, waits_for, dispatch_waits, is_covered}
 use Rattle.model.specs.State.{State, new, is_open, state_without, state_with_claim}
 use Rattle.model.specs.Recalling.{Order, Recalled, recall_result}
-use Rattle.model.specs.Calls.{answer_granted, answer_covered, answer_waits, answer_recalled, answer_refused, checks, refusal, Effect, plain, claimed, claim_answer, is_named, after_entry, accepted, effect_by, step}
+-- the claim of a call, under the name that proofs above cite
+pub use Rattle.model.specs.Calls.{claim_of as asked}
+use Rattle.model.specs.Calls.{answer_granted, answer_covered, answer_waits, answer_recalled, answer_refused, checks, refusal, Effect, plain, claimed, claim_answer, is_named, after_entry, claim_of, accepted, effect_by, step}
 use Rattle.model.specs.Invariant.{claim_in_range, WellFormed, Invariant}
 use Rattle.model.specs.Law.{IsEntered, EntersClaim, once_entered}
 use Rattle.model.specs.declared.call.Call.{Call}
 use Rattle.model.specs.declared.call.Call.TheVariants as call
 use Rattle.model.specs.declared.report.ReportEntry.{ReportEntry}
-use Rattle.model.specs.declared.state.Claim.{Claim}
 use Rattle.model.specs.declared.state.Detection.{Detection}
 use Rattle.model.specs.declared.state.Detection.TheVariants.{Continuous, Periodic}
 use Rattle.model.proofs.Graphs.{leads_wider, first_step}
@@ -22,30 +23,36 @@ use Rattle.model.proofs.Recalls.{Grounded, Recalls, done, next, recalling_recall
 use Rattle.model.proofs.Keeps.{new_kept, grounded, taken_out_kept, acknowledged_kept, opening_kept, entered_kept, recall_kept}
 
 -- a call is refused, or passes all its checks
-pub effect_cases : (u : Relations) (o : Order) (s : State) (c : Call) (P : Effect → Type 0) → ((n : ℕ) → refusal (checks u s c) ≡ Some n → P (plain s (answer_refused n))) → (refusal (checks u s c) ≡ None → P (accepted u o s c)) → P (effect_by u o s c (refusal (checks u s c)))
+pub effect_cases :
+    (u : Relations) (o : Order) (s : State) (c : Call) (P : Effect → Type 0)
+    → ((n : ℕ) → refusal (checks u s c) ≡ Some n → P (plain s (answer_refused n)))
+    → (refusal (checks u s c) ≡ None → P (accepted u o s c))
+    → P (effect_by u o s c (refusal (checks u s c)))
 effect_cases u o s c P refused passed = by_refusal (refusal (checks u s c)) refl
   where
     by_refusal : (v : Option ℕ) → refusal (checks u s c) ≡ v → P (effect_by u o s c v)
     by_refusal None e = passed e
     by_refusal (Some n) e = refused n e
 
--- the claim that a call asks for
-abbrev pub asked : ℕ → ℕ → ℕ → Claim
-asked d section mode = record { dispatch = d; section = section; mode = mode }
-
 -- a claim that is not refused is covered already, or is entered
-pub claim_cases : (u : Relations) (o : Order) (s : State) (d section mode : ℕ) (P : Effect → Type 0) → (is_covered u s.claims d section mode ≡ true → P (plain s answer_covered)) → (is_covered u s.claims d section mode ≡ false → P (claimed u d (after_entry u o s.detection (state_with_claim (asked d section mode) s)))) → P (accepted u o s (call.Claim d section mode))
+pub claim_cases :
+    (u : Relations) (o : Order) (s : State) (d section mode : ℕ) (P : Effect → Type 0)
+    → (is_covered u s.claims d section mode ≡ true → P (plain s answer_covered))
+    → (is_covered u s.claims d section mode ≡ false → P (claimed u d (after_entry u o s.detection (state_with_claim (claim_of d section mode) s))))
+    → P (accepted u o s (call.Claim d section mode))
 claim_cases u o s d section mode =
-    cond_both (is_covered u s.claims d section mode) (plain s answer_covered) (claimed u d (after_entry u o s.detection (state_with_claim (asked d section mode) s)))
+    cond_both (is_covered u s.claims d section mode) (plain s answer_covered) (claimed u d (after_entry u o s.detection (state_with_claim (claim_of d section mode) s)))
 
 -- what a claim that is not refused has passed
 pub record PassedClaim (u : Relations) (s : State) (d section mode : ℕ) : Type 0 where
-  pub right : claim_in_range s (asked d section mode) ≡ true
+  pub right : claim_in_range s (claim_of d section mode) ≡ true
   pub known : u.known mode ≡ true
   pub runs : dispatch_waits u s.claims d ≡ false
   pub room : is_covered u s.claims d section mode ≡ false → length s.claims < 512
 
-pub passed_claim : (u : Relations) (s : State) (d section mode : ℕ) → refusal (checks u s (call.Claim d section mode)) ≡ None → PassedClaim u s d section mode
+pub passed_claim :
+    (u : Relations) (s : State) (d section mode : ℕ)
+    → refusal (checks u s (call.Claim d section mode)) ≡ None → PassedClaim u s d section mode
 passed_claim u s d section mode h = record {
   right = grind (arith, nat_tests);
   known = grind (arith, nat_tests);
@@ -54,7 +61,9 @@ passed_claim u s d section mode h = record {
 }
 
 -- what an opening that is not refused has passed
-pub passed_opening : (u : Relations) (s : State) (d weight : ℕ) → refusal (checks u s (call.Open d weight)) ≡ None → (d < 64) × (weight ≤ 1000) × (s.recalled d ≡ false) × (is_open s d ≡ false)
+pub passed_opening :
+    (u : Relations) (s : State) (d weight : ℕ) → refusal (checks u s (call.Open d weight)) ≡ None
+    → (d < 64) × (weight ≤ 1000) × (s.recalled d ≡ false) × (is_open s d ≡ false)
 passed_opening u s d weight h = (grind (arith, nat_tests), grind (arith, nat_tests), grind (arith, nat_tests), grind (arith, nat_tests))
 
 -- the answer to a claim that was entered says so
@@ -64,23 +73,33 @@ answers_entered u d r =
     (λ _. cond_both (dispatch_waits u r.state.claims d) answer_waits answer_granted IsEntered (λ _. tt) (λ _. tt))
 
 -- recalling within a call keeps the state well formed
-pub recalls_kept : (u : Relations) (o : Order) {s t : State} {ns : List ReportEntry} → Recalls u o s ns t → WellFormed u s → WellFormed u t
+pub recalls_kept :
+    (u : Relations) (o : Order) {s t : State} {ns : List ReportEntry} → Recalls u o s ns t
+    → WellFormed u s → WellFormed u t
 recalls_kept u o (done clear) w = w
 recalls_kept u o {s} (next {n = n} cycle best rest) w =
     recalls_kept u o rest (recall_kept u s w n.dispatch (cycle_open u s (grounded u s w) n.dispatch cycle))
 
 -- recalling within a call keeps the detection
-pub recalls_detection : (u : Relations) (o : Order) {s t : State} {ns : List ReportEntry} → Recalls u o s ns t → t.detection ≡ s.detection
+pub recalls_detection :
+    (u : Relations) (o : Order) {s t : State} {ns : List ReportEntry} → Recalls u o s ns t
+    → t.detection ≡ s.detection
 recalls_detection u o (done clear) = refl
 recalls_detection u o (next cycle best rest) = recalls_detection u o rest
 
 -- a call that looks for cycles recalls until none stands; any other recalls nobody
 pub data Looked (u : Relations) (o : Order) (s : State) (c : Call) (e : Effect) : Type 0 where
-  looks : Grounded (once_entered c s) → Recalls u o (once_entered c s) e.recalls e.state → (c ≡ call.Sweep) ⊎ ((s.detection ≡ Continuous) × EntersClaim c e.answer) → Looked u o s c e
-  looks_not : e.recalls ≡ [] → (c ≡ call.Sweep → ⊥) → (s.detection ≡ Continuous → EntersClaim c e.answer → ⊥) → Looked u o s c e
+  looks :
+      Grounded (once_entered c s) → Recalls u o (once_entered c s) e.recalls e.state
+      → (c ≡ call.Sweep) ⊎ ((s.detection ≡ Continuous) × EntersClaim c e.answer) → Looked u o s c e
+  looks_not :
+      e.recalls ≡ [] → (c ≡ call.Sweep → ⊥)
+      → (s.detection ≡ Continuous → EntersClaim c e.answer → ⊥) → Looked u o s c e
 
 -- a sweep is not refused
-refused_sweep : (u : Relations) (s : State) (c : Call) (n : ℕ) → refusal (checks u s c) ≡ Some n → c ≡ call.Sweep → ⊥
+refused_sweep :
+    (u : Relations) (s : State) (c : Call) (n : ℕ) → refusal (checks u s c) ≡ Some n
+    → c ≡ call.Sweep → ⊥
 refused_sweep u s c n h e = let none : ◌≡◌ {A = Option ℕ} None (Some n) = subst (λ (x : Call). refusal (checks u s x) ≡ Some n) e h in cc
 
 -- a refused call enters no claim
@@ -94,13 +113,20 @@ refused_enters call.Sweep n e = e
 
 module _ (u : Relations) (o : Order) (lawful : OrderLaws o) (s : State) (w : WellFormed u s) where
   -- the state with the claim entered is well formed
-  pub entry_kept : (d section mode : ℕ) → PassedClaim u s d section mode → is_covered u s.claims d section mode ≡ false → WellFormed u (state_with_claim (asked d section mode) s)
-  entry_kept d section mode passed new = entered_kept u s w (asked d section mode) passed.right passed.known passed.runs (passed.room new)
+  pub entry_kept :
+      (d section mode : ℕ) → PassedClaim u s d section mode
+      → is_covered u s.claims d section mode ≡ false
+      → WellFormed u (state_with_claim (claim_of d section mode) s)
+  entry_kept d section mode passed new = entered_kept u s w (claim_of d section mode) passed.right passed.known passed.runs (passed.room new)
 
   -- a claim that is entered looks for cycles in a continuous book
-  looked_after_entry : (d section mode : ℕ) → WellFormed u (state_with_claim (asked d section mode) s) → (detection : Detection) → s.detection ≡ detection → Looked u o s (call.Claim d section mode) (claimed u d (after_entry u o detection (state_with_claim (asked d section mode) s)))
+  looked_after_entry :
+      (d section mode : ℕ) → WellFormed u (state_with_claim (claim_of d section mode) s)
+      → (detection : Detection) → s.detection ≡ detection
+      → Looked u o s (call.Claim d section mode)
+      (claimed u d (after_entry u o detection (state_with_claim (claim_of d section mode) s)))
   looked_after_entry d section mode kept Continuous is =
-      let t = state_with_claim (asked d section mode) s in
+      let t = state_with_claim (claim_of d section mode) s in
       looks (grounded u t kept) (recalling_recalls u o lawful t (grounded u t kept)) (inr (is, answers_entered u d (recall_result u o t)))
   looked_after_entry d section mode kept Periodic is = looks_not refl (λ e. cc) (λ k e. cc)
 
@@ -115,18 +141,22 @@ module _ (u : Relations) (o : Order) (lawful : OrderLaws o) (s : State) (w : Wel
   looked_accepted call.Sweep h = looks (grounded u s w) (recalling_recalls u o lawful s (grounded u s w)) (inl refl)
 
   -- every call looks for cycles, or recalls nobody
-  pub looks_or_recalls_nobody : (c : Call) → Looked u o s c (effect_by u o s c (refusal (checks u s c)))
+  pub looks_or_recalls_nobody :
+      (c : Call) → Looked u o s c (effect_by u o s c (refusal (checks u s c)))
   looks_or_recalls_nobody c = effect_cases u o s c (Looked u o s c) (λ n h. looks_not refl (refused_sweep u s c n h) (λ k. refused_enters c n)) (looked_accepted c)
 
-  entry_detection : (t : State) → WellFormed u t → (detection : Detection) → (after_entry u o detection t).state.detection ≡ t.detection
+  entry_detection :
+      (t : State) → WellFormed u t → (detection : Detection)
+      → (after_entry u o detection t).state.detection ≡ t.detection
   entry_detection t kept Continuous = recalls_detection u o (recalling_recalls u o lawful t (grounded u t kept))
   entry_detection t kept Periodic = refl
 
-  accepted_detection : (c : Call) → refusal (checks u s c) ≡ None → (accepted u o s c).state.detection ≡ s.detection
+  accepted_detection :
+      (c : Call) → refusal (checks u s c) ≡ None → (accepted u o s c).state.detection ≡ s.detection
   accepted_detection (call.Open d weight) h = refl
   accepted_detection (call.Claim d section mode) h =
       claim_cases u o s d section mode (λ e. e.state.detection ≡ s.detection) (λ _. refl)
-      (λ new. entry_detection (state_with_claim (asked d section mode) s) (entry_kept d section mode (passed_claim u s d section mode h) new) s.detection)
+      (λ new. entry_detection (state_with_claim (claim_of d section mode) s) (entry_kept d section mode (passed_claim u s d section mode h) new) s.detection)
   accepted_detection (call.Close d) h = refl
   accepted_detection (call.Withdraw d) h = refl
   accepted_detection (call.Acknowledge d) h = refl
@@ -147,7 +177,9 @@ module _ (u : Relations) (o : Order) (lawful : OrderLaws o) (s : State) (i : Inv
       let rs = recalling_recalls u o lawful t (grounded u t kept) in
       record { well_formed = recalls_kept u o rs kept; no_cycle = λ _. recalls_clear u o rs }
 
-  entry_invariant : (t : State) → WellFormed u t → (detection : Detection) → t.detection ≡ detection → Invariant u (after_entry u o detection t).state
+  entry_invariant :
+      (t : State) → WellFormed u t → (detection : Detection) → t.detection ≡ detection
+      → Invariant u (after_entry u o detection t).state
   entry_invariant t kept Continuous is = recalling_invariant t kept
   entry_invariant t kept Periodic is = record { well_formed = kept; no_cycle = λ e. cc }
 
@@ -160,13 +192,14 @@ module _ (u : Relations) (o : Order) (lawful : OrderLaws o) (s : State) (i : Inv
         (leads_wider (waits_for u (without d s.claims)) (waits_for u s.claims) (λ a b h. grind (arith, h, waits_for_without u d s.claims a b)) cycle);
   }
 
-  accepted_invariant : (c : Call) → refusal (checks u s c) ≡ None → Invariant u (accepted u o s c).state
+  accepted_invariant :
+      (c : Call) → refusal (checks u s c) ≡ None → Invariant u (accepted u o s c).state
   accepted_invariant (call.Open d weight) h =
       let passed = passed_opening u s d weight h in
       record { well_formed = opening_kept u s w d weight passed.0 passed.1 passed.2 passed.3; no_cycle = i.no_cycle }
   accepted_invariant (call.Claim d section mode) h =
       claim_cases u o s d section mode (λ e. Invariant u e.state) (λ _. i)
-      (λ new. entry_invariant (state_with_claim (asked d section mode) s) (entry_kept u o lawful s w d section mode (passed_claim u s d section mode h) new) s.detection refl)
+      (λ new. entry_invariant (state_with_claim (claim_of d section mode) s) (entry_kept u o lawful s w d section mode (passed_claim u s d section mode h) new) s.detection refl)
   accepted_invariant (call.Close d) h = taken_out_invariant d
   accepted_invariant (call.Withdraw d) h = taken_out_invariant d
   accepted_invariant (call.Acknowledge d) h = record { well_formed = acknowledged_kept u s w d; no_cycle = i.no_cycle }

@@ -16,22 +16,30 @@ use Rattle.model.proofs.Recalls.{Grounded, grounded_recall, in_cycles, cycle_ope
 
 module _ (u : Relations) (o : Order) (lawful : OrderLaws o) where
   -- the first of those on cycles is open
-  pub victim_open : (s : State) → Grounded s → (d : ℕ) → first u o s (on_cycles u s) ≡ Some d → is_open s d ≡ true
+  pub victim_open :
+      (s : State) → Grounded s → (d : ℕ) → first u o s (on_cycles u s) ≡ Some d → is_open s d ≡ true
   victim_open s g d e = cycle_open u s g d ((in_cycles u s g d).0 (first_some u o lawful s (on_cycles u s) d e).1)
 
   -- one turn is the same, whatever follows gives the same
-  same_turn : (s : State) (again again' : State → Recalled) → Grounded s → ((d : ℕ) → is_open s d ≡ true → again (recall d s) ≡ again' (recall d s)) → (v : Option ℕ) → first u o s (on_cycles u s) ≡ v → recall_and u again s v ≡ recall_and u again' s v
+  same_turn :
+      (s : State) (again again' : State → Recalled) → Grounded s
+      → ((d : ℕ) → is_open s d ≡ true → again (recall d s) ≡ again' (recall d s)) → (v : Option ℕ)
+      → first u o s (on_cycles u s) ≡ v → recall_and u again s v ≡ recall_and u again' s v
   same_turn s again again' g same None e = refl
   same_turn s again again' g same (Some d) e = grind (arith, same d (victim_open s g d e))
 
   -- where nobody is open, nobody is recalled
-  nobody_open : (s : State) (again : State → Recalled) → Grounded s → length s.opened ≤ 0 → (v : Option ℕ) → first u o s (on_cycles u s) ≡ v → recall_and u again s v ≡ nobody s
+  nobody_open :
+      (s : State) (again : State → Recalled) → Grounded s → length s.opened ≤ 0 → (v : Option ℕ)
+      → first u o s (on_cycles u s) ≡ v → recall_and u again s v ≡ nobody s
   nobody_open s again g none None e = refl
   nobody_open s again g none (Some d) e =
       absurd (false≢true (sym (ap (λ es. member d (numbers es)) (nil_from_length s.opened (omega arith))) ∙ victim_open s g d e))
 
   -- with at least as many turns as open dispatches, recalling is the same
-  enough_turns : (n m : ℕ) (s : State) → Grounded s → length s.opened ≤ n → length s.opened ≤ m → recall_result_within n u o s ≡ recall_result_within m u o s
+  enough_turns :
+      (n m : ℕ) (s : State) → Grounded s → length s.opened ≤ n → length s.opened ≤ m
+      → recall_result_within n u o s ≡ recall_result_within m u o s
   unfolding recall_result_within
   enough_turns zero zero s g few few' = refl
   enough_turns zero (suc m) s g few few' = sym (nobody_open s (recall_result_within m u o) g few (first u o s (on_cycles u s)) refl)
@@ -42,7 +50,9 @@ module _ (u : Relations) (o : Order) (lawful : OrderLaws o) where
       (first u o s (on_cycles u s)) refl
 
   -- recalling is any number of turns that suffices
-  pub recalling_turns : (n : ℕ) (s : State) → Grounded s → length s.opened ≤ n → recall_result u o s ≡ recall_result_within n u o s
+  pub recalling_turns :
+      (n : ℕ) (s : State) → Grounded s → length s.opened ≤ n
+      → recall_result u o s ≡ recall_result_within n u o s
   unfolding recall_result
   recalling_turns n s g few = enough_turns (length s.opened) n s g (omega arith) few
 
@@ -68,11 +78,15 @@ better u o s d None = Some d
 better u o s d (Some b) = cond (o (summary u s d) (summary u s b)) (Some d) (Some b)
 
 -- a test of all, of a list and one more
-all_pass_more : {X : Type 0} (p : X → Bool) (xs : List X) (x : X) → list_all p (xs ++ x ∷ []) ≡ (list_all p xs && p x)
+all_pass_more :
+    {X : Type 0} (p : X → Bool) (xs : List X) (x : X)
+    → list_all p (xs ++ x ∷ []) ≡ (list_all p xs && p x)
 all_pass_more p xs x = grind (arith, list_all-append p xs (x ∷ []))
 
 -- filters that agree on a list keep the same
-pub kept_same : (p q : ℕ → Bool) (xs : List ℕ) → ((x : ℕ) → member x xs ≡ true → p x ≡ q x) → filter p xs ≡ filter q xs
+pub kept_same :
+    (p q : ℕ → Bool) (xs : List ℕ) → ((x : ℕ) → member x xs ≡ true → p x ≡ q x)
+    → filter p xs ≡ filter q xs
 kept_same p q [] same = refl
 kept_same p q (x ∷ xs) same = grind (arith, nat_tests, same x, kept_same p q xs (λ y m. same y (or_right (eqb x y) (member y xs) m)))
 
@@ -90,7 +104,9 @@ module _ (u : Relations) (o : Order) (lawful : OrderLaws o) (s : State) (ds : Li
   unbeaten_more x = all_pass_more (no_later u o s x) ds d
 
   -- a set and one more that goes no later than its first
-  first_takes : (b : ℕ) → first u o s ds ≡ Some b → o (summary u s d) (summary u s b) ≡ true → first u o s more ≡ Some d
+  first_takes :
+      (b : ℕ) → first u o s ds ≡ Some b → o (summary u s d) (summary u s b) ≡ true
+      → first u o s more ≡ Some d
   first_takes b e h =
       let chosen = first_some u o lawful s ds b e in
       let all = all_pass_wider (no_later u o s b) (no_later u o s d) (λ y k. let through = lawful.transitive (summary u s d) (summary u s b) (summary u s y) h in grind (arith, through, k)) ds chosen.0 in
@@ -100,7 +116,9 @@ module _ (u : Relations) (o : Order) (lawful : OrderLaws o) (s : State) (ds : Li
       ap last (filter-append (unbeaten u o s more) ds (d ∷ []) ∙ ap (λ ks. filter (unbeaten u o s more) ds ++ ks) alone) ∙ last_push (filter (unbeaten u o s more) ds) d
 
   -- a set and one more that its first goes strictly before
-  first_keeps : (b : ℕ) → first u o s ds ≡ Some b → o (summary u s d) (summary u s b) ≡ false → first u o s more ≡ Some b
+  first_keeps :
+      (b : ℕ) → first u o s ds ≡ Some b → o (summary u s d) (summary u s b) ≡ false
+      → first u o s more ≡ Some b
   first_keeps b e h =
       let chosen = first_some u o lawful s ds b e in
       let ahead = lawful.total (summary u s d) (summary u s b) in

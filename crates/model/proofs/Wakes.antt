@@ -13,7 +13,9 @@ use Rattle.model.proofs.ClaimLists.{dispatch_waits_push}
 
 module _ (u : Relations) (s t : State) where
   -- nobody is woken where whoever waited still waits
-  pub woken_nobody : ((d : ℕ) → dispatch_waits u s.claims d ≡ true → dispatch_waits u t.claims d ≡ true) → woken u s t ≡ []
+  pub woken_nobody :
+      ((d : ℕ) → dispatch_waits u s.claims d ≡ true → dispatch_waits u t.claims d ≡ true)
+      → woken u s t ≡ []
   woken_nobody still =
       let woke : ℕ → Bool = λ d. dispatch_waits u s.claims d && not (dispatch_waits u t.claims d) in
       let none : any woke (numbers t.opened) ≡ false =

@@ -4,9 +4,9 @@ use Rattle.uses.specs.Spans.{some_field, each_field}
 use Rattle.model.specs.Graph.{closure}
 use Rattle.model.specs.Recalling.{on_cycles, recall_result_within, recall_result}
 use Rattle.model.specs.Calls.{step}
-use Rattle.model.specs.Examples.{Right, examples}
+use Rattle.model.specs.Examples.{IsRight, examples}
 
-pub all_right : AllByRecursion Right examples
+pub all_right : AllByRecursion IsRight examples
 unfolding step closure on_cycles recall_result_within recall_result some_field each_field
 all_right =
     (search, (search, (search, (search, (search, (search, (search, (search, (search, (search, (search, (search, (search, (search, (search, (search, (search, (search, (search, (search, (search, (search, (search, (search, (search, (search, (search, (search, tt))))))))))))))))))))))))))))

@@ -1,4 +1,5 @@
--- Worked examples: runs with every answer and report, what a book answers after a run, reports, and charts of the tables of uses. They can be checked by hand.
+-- Worked examples, which can be checked by hand: runs with every answer and report, what a book
+-- answers after a run, a report in its places, and charts of the tables of uses.
 use Rattle.std.specs.Prelude.{◌≡◌, ℕ, Bool, true, false, if◌then◌else◌, ◌||◌, List, [], ◌∷◌, map, replicate, codes, Some, None, Ok, Err, Option, Result, nat_le, nat_lt}
 use Rattle.std.specs.List.{AllByRecursion}
 use Rattle.uses.specs.Relations.{Relations}
@@ -26,48 +27,67 @@ pub record Line : Type 0 where
   pub recalls : List ReportEntry
   pub wakes : List ReportEntry
 
--- an example: a run from a new book, line by line; how dispatches stand; yes or no; reports; or a relation of uses as a chart
+-- a question about a dispatch's condition, answered
+abbrev pub Asked : Type 0
+Asked = Result (Condition × Option ℕ) ℕ
+
+-- an example; its answers stand beside those that are wanted
 pub data Example : Type 0 where
+  -- a run from a new book, line by line
   played : Detection → Relations → Order → List Line → Example
-  stood : List (Result (Condition × Option ℕ) ℕ × Result (Condition × Option ℕ) ℕ) → Example
+  -- how dispatches stand
+  stood : List (Asked × Asked) → Example
+  -- yes or no
   asked : List (Bool × Bool) → Example
+  -- reports
   reported : List (Report × Report) → Example
+  -- a relation of uses, and its chart
   charted : (ℕ → ℕ → Bool) → List ℕ → List (List ℕ) → Example
 
--- each call gives what its line says
-abbrev pub Gives : Relations → Order → State → List Line → Type 0
-Gives u o s [] = Unit {0}
-Gives u o s (l ∷ ls) =
-    ((step u o s l.made).answer ≡ l.answer)
-    × ((step u o s l.made).recalls ≡ l.recalls)
-    × ((step u o s l.made).wakes ≡ l.wakes)
-    × Gives u o (step u o s l.made).state ls
+module _ (u : Relations) (o : Order) where
+  -- each call gives what its line says
+  abbrev pub Gives : State → List Line → Type 0
+  Gives s [] = Unit {0}
+  Gives s (l ∷ ls) =
+      ((step u o s l.made).answer ≡ l.answer)
+      × ((step u o s l.made).recalls ≡ l.recalls)
+      × ((step u o s l.made).wakes ≡ l.wakes)
+      × Gives (step u o s l.made).state ls
 
--- a chart of a relation: a row for each use, with an x where the relation holds of it and the use of the column
+  -- the state after calls
+  abbrev pub after : State → List Call → State
+  after s [] = s
+  after s (c ∷ cs) = after (step u o s c).state cs
+
+-- a chart of a relation: a row for each use, with an x where it stands in the relation to the use
+-- of the column
 abbrev pub chart : (ℕ → ℕ → Bool) → List ℕ → List (List ℕ)
 chart r uses = map (λ a. map (λ b. if r a b then 120 else 46) uses) uses
 
 -- the example is right
-abbrev pub Right : Example → Type 0
-Right (played detection u o ls) = Gives u o (new detection) ls
-Right (stood answers) = AllByRecursion (λ a. a.0 ≡ a.1) answers
-Right (asked answers) = AllByRecursion (λ a. a.0 ≡ a.1) answers
-Right (reported reports) = AllByRecursion (λ r. r.0 ≡ r.1) reports
-Right (charted r uses rows) = chart r uses ≡ rows
+abbrev pub IsRight : Example → Type 0
+IsRight (played detection u o ls) = Gives u o (new detection) ls
+IsRight (stood answers) = AllByRecursion (λ a. a.0 ≡ a.1) answers
+IsRight (asked answers) = AllByRecursion (λ a. a.0 ≡ a.1) answers
+IsRight (reported reports) = AllByRecursion (λ r. r.0 ≡ r.1) reports
+IsRight (charted r uses rows) = chart r uses ≡ rows
 
--- the state after calls
-abbrev pub after : Relations → Order → State → List Call → State
-after u o s [] = s
-after u o s (c ∷ cs) = after u o (step u o s c).state cs
-
--- a call that recalls and wakes nobody
-abbrev pub quiet : Call → ModelAnswer → Line
-quiet c a = record { made = c; answer = a; recalls = []; wakes = [] }
-
-infixl 30 ◌at◌
+infixl 70 ◌at◌ ◌⇒◌
 -- a dispatch at a section
 abbrev pub ◌at◌ : ℕ → ℕ → ReportEntry
 d at section = record { dispatch = d; section = section }
+
+-- a call with its answer; it recalls and wakes nobody
+abbrev pub ◌⇒◌ : Call → ModelAnswer → Line
+c ⇒ a = record { made = c; answer = a; recalls = []; wakes = [] }
+
+-- a line, and whom its call recalls
+abbrev pub recalling : Line → List ReportEntry → Line
+recalling l ns = record { made = l.made; answer = l.answer; recalls = ns; wakes = l.wakes }
+
+-- a line, and whom its call wakes
+abbrev pub waking : Line → List ReportEntry → Line
+waking l ns = record { made = l.made; answer = l.answer; recalls = l.recalls; wakes = ns }
 
 -- the code of a look
 abbrev pub look : ℕ
@@ -79,28 +99,33 @@ move = 1
 
 -- a sweep of a new book
 abbrev pub sweep_of_a_new_book : Example
-sweep_of_a_new_book = played Continuous two_uses newest (quiet Sweep answer_ok ∷ [])
+sweep_of_a_new_book = played Continuous two_uses newest (Sweep ⇒ answer_ok ∷ [])
 
 -- who moves on a section may look at it
 abbrev pub covered_claim : Example
-covered_claim = played Continuous two_uses newest (quiet (Open 1 5) answer_ok ∷ quiet (Claim 1 10 move) answer_granted ∷ quiet (Claim 1 10 look) answer_covered ∷ [])
+covered_claim =
+    played Continuous two_uses newest
+    (Open 1 5 ⇒ answer_ok ∷ Claim 1 10 move ⇒ answer_granted
+    ∷ Claim 1 10 look ⇒ answer_covered ∷ [])
 
 -- two stations, each with its own dock, each claims the other's
 abbrev pub two_stations : Example
 two_stations =
     played Continuous two_uses newest
-    (quiet (Open 1 5) answer_ok ∷ quiet (Open 2 5) answer_ok ∷ quiet (Claim 1 10 move) answer_granted ∷ quiet (Claim 2 11 move) answer_granted
-    ∷ quiet (Claim 1 11 move) answer_waits
-    ∷ record { made = Claim 2 10 move; answer = answer_recalled; recalls = (2 at 10) ∷ []; wakes = (1 at 11) ∷ [] }
-    ∷ quiet (Acknowledge 2) answer_ok ∷ [])
+    (Open 1 5 ⇒ answer_ok ∷ Open 2 5 ⇒ answer_ok
+    ∷ Claim 1 10 move ⇒ answer_granted ∷ Claim 2 11 move ⇒ answer_granted
+    ∷ Claim 1 11 move ⇒ answer_waits
+    ∷ waking (recalling (Claim 2 10 move ⇒ answer_recalled) (2 at 10 ∷ [])) (1 at 11 ∷ [])
+    ∷ Acknowledge 2 ⇒ answer_ok ∷ [])
 
 -- two look at one section, and both then claim to move there; and what comes then
 abbrev pub double_upgrade_and : List Line → Example
 double_upgrade_and ls =
     played Continuous two_uses newest
-    (quiet (Open 1 5) answer_ok ∷ quiet (Open 2 5) answer_ok ∷ quiet (Claim 1 7 look) answer_granted ∷ quiet (Claim 2 7 look) answer_granted
-    ∷ quiet (Claim 1 7 move) answer_waits
-    ∷ record { made = Claim 2 7 move; answer = answer_recalled; recalls = (2 at 7) ∷ []; wakes = (1 at 7) ∷ [] } ∷ ls)
+    (Open 1 5 ⇒ answer_ok ∷ Open 2 5 ⇒ answer_ok
+    ∷ Claim 1 7 look ⇒ answer_granted ∷ Claim 2 7 look ⇒ answer_granted
+    ∷ Claim 1 7 move ⇒ answer_waits
+    ∷ waking (recalling (Claim 2 7 move ⇒ answer_recalled) (2 at 7 ∷ [])) (1 at 7 ∷ []) ∷ ls)
 
 -- the newer one is recalled, and the other goes on
 abbrev pub double_upgrade : Example
@@ -110,68 +135,83 @@ double_upgrade = double_upgrade_and []
 abbrev pub behind_a_waiting_claim : Example
 behind_a_waiting_claim =
     played Continuous two_uses newest
-    (quiet (Open 1 5) answer_ok ∷ quiet (Open 2 5) answer_ok ∷ quiet (Open 3 5) answer_ok ∷ quiet (Claim 1 7 look) answer_granted
-    ∷ quiet (Claim 2 7 move) answer_waits ∷ quiet (Claim 3 7 look) answer_waits
-    ∷ record { made = Close 1; answer = answer_ok; recalls = []; wakes = (2 at 7) ∷ [] } ∷ [])
+    (Open 1 5 ⇒ answer_ok ∷ Open 2 5 ⇒ answer_ok ∷ Open 3 5 ⇒ answer_ok
+    ∷ Claim 1 7 look ⇒ answer_granted ∷ Claim 2 7 move ⇒ answer_waits
+    ∷ Claim 3 7 look ⇒ answer_waits ∷ waking (Close 1 ⇒ answer_ok) (2 at 7 ∷ []) ∷ [])
 
 -- a claim that conflicts with nothing passes one that waits
 abbrev pub beside_a_waiting_claim : Example
 beside_a_waiting_claim =
     played Continuous five_uses newest
-    (quiet (Open 1 5) answer_ok ∷ quiet (Open 2 5) answer_ok ∷ quiet (Open 3 5) answer_ok ∷ quiet (Claim 1 0 S) answer_granted ∷ quiet (Claim 2 0 IX) answer_waits
-    ∷ quiet (Claim 3 0 IS) answer_granted ∷ [])
+    (Open 1 5 ⇒ answer_ok ∷ Open 2 5 ⇒ answer_ok ∷ Open 3 5 ⇒ answer_ok
+    ∷ Claim 1 0 S ⇒ answer_granted ∷ Claim 2 0 IX ⇒ answer_waits
+    ∷ Claim 3 0 IS ⇒ answer_granted ∷ [])
 
 -- the first calls of a cycle of three dispatches, of weights 9, 3 and 5
 abbrev pub three_and : List Line → List Line
 three_and ls =
-    quiet (Open 1 9) answer_ok ∷ quiet (Open 2 3) answer_ok ∷ quiet (Open 3 5) answer_ok ∷ quiet (Claim 1 10 move) answer_granted
-    ∷ quiet (Claim 2 11 move) answer_granted ∷ quiet (Claim 3 12 move) answer_granted ∷ quiet (Claim 1 11 move) answer_waits
-    ∷ quiet (Claim 2 12 move) answer_waits ∷ ls
+    Open 1 9 ⇒ answer_ok ∷ Open 2 3 ⇒ answer_ok ∷ Open 3 5 ⇒ answer_ok
+    ∷ Claim 1 10 move ⇒ answer_granted ∷ Claim 2 11 move ⇒ answer_granted
+    ∷ Claim 3 12 move ⇒ answer_granted ∷ Claim 1 11 move ⇒ answer_waits
+    ∷ Claim 2 12 move ⇒ answer_waits ∷ ls
 
 -- the lightest of three is recalled as the cycle closes
 abbrev pub lightest_of_three : Example
 lightest_of_three =
     played Continuous two_uses lightest
-    (three_and (record { made = Claim 3 10 move; answer = answer_waits; recalls = (2 at 12) ∷ []; wakes = (1 at 11) ∷ [] } ∷ []))
+    (three_and
+    (waking (recalling (Claim 3 10 move ⇒ answer_waits) (2 at 12 ∷ [])) (1 at 11 ∷ []) ∷ []))
 
 -- the same in a periodic book: the cycle stands until a sweep
 abbrev pub periodic_of_three : Example
 periodic_of_three =
     played Periodic two_uses lightest
     (three_and
-    (quiet (Claim 3 10 move) answer_waits ∷ record { made = Sweep; answer = answer_ok; recalls = (2 at 12) ∷ []; wakes = (1 at 11) ∷ [] } ∷ []))
+    (Claim 3 10 move ⇒ answer_waits
+    ∷ waking (recalling (Sweep ⇒ answer_ok) (2 at 12 ∷ [])) (1 at 11 ∷ []) ∷ []))
 
 -- every blocker counts: 3 waits behind both lookers, and the cycle goes through the second
 abbrev pub second_blocker : Example
 second_blocker =
     played Continuous two_uses newest
-    (quiet (Open 1 5) answer_ok ∷ quiet (Open 2 5) answer_ok ∷ quiet (Open 3 5) answer_ok ∷ quiet (Claim 1 7 look) answer_granted ∷ quiet (Claim 2 7 look) answer_granted
-    ∷ quiet (Claim 3 8 move) answer_granted ∷ quiet (Claim 3 7 move) answer_waits
-    ∷ record { made = Claim 2 8 move; answer = answer_granted; recalls = (3 at 7) ∷ []; wakes = [] } ∷ [])
+    (Open 1 5 ⇒ answer_ok ∷ Open 2 5 ⇒ answer_ok ∷ Open 3 5 ⇒ answer_ok
+    ∷ Claim 1 7 look ⇒ answer_granted ∷ Claim 2 7 look ⇒ answer_granted
+    ∷ Claim 3 8 move ⇒ answer_granted ∷ Claim 3 7 move ⇒ answer_waits
+    ∷ recalling (Claim 2 8 move ⇒ answer_granted) (3 at 7 ∷ []) ∷ [])
 
 -- after each recall one looks again: with 4 gone, 3 is on no cycle, and 2 is the next
 abbrev pub two_cycles : Example
 two_cycles =
     played Periodic two_uses newest
-    (quiet (Open 1 5) answer_ok ∷ quiet (Open 2 5) answer_ok ∷ quiet (Open 3 5) answer_ok ∷ quiet (Open 4 5) answer_ok ∷ quiet (Claim 1 10 move) answer_granted
-    ∷ quiet (Claim 2 11 move) answer_granted ∷ quiet (Claim 3 12 move) answer_granted ∷ quiet (Claim 4 13 move) answer_granted
-    ∷ quiet (Claim 1 11 move) answer_waits ∷ quiet (Claim 2 10 move) answer_waits ∷ quiet (Claim 3 13 move) answer_waits
-    ∷ quiet (Claim 4 12 move) answer_waits
-    ∷ record { made = Sweep; answer = answer_ok; recalls = (4 at 12) ∷ (2 at 10) ∷ []; wakes = (1 at 11) ∷ (3 at 13) ∷ [] } ∷ [])
+    (Open 1 5 ⇒ answer_ok ∷ Open 2 5 ⇒ answer_ok
+    ∷ Open 3 5 ⇒ answer_ok ∷ Open 4 5 ⇒ answer_ok
+    ∷ Claim 1 10 move ⇒ answer_granted ∷ Claim 2 11 move ⇒ answer_granted
+    ∷ Claim 3 12 move ⇒ answer_granted ∷ Claim 4 13 move ⇒ answer_granted
+    ∷ Claim 1 11 move ⇒ answer_waits ∷ Claim 2 10 move ⇒ answer_waits
+    ∷ Claim 3 13 move ⇒ answer_waits ∷ Claim 4 12 move ⇒ answer_waits
+    ∷ waking (recalling (Sweep ⇒ answer_ok) (4 at 12 ∷ 2 at 10 ∷ [])) (1 at 11 ∷ 3 at 13 ∷ [])
+    ∷ [])
 
 -- a wrong section is refused before an unknown use
 abbrev pub order_of_refusals : Example
-order_of_refusals = played Continuous two_uses newest (quiet (Open 1 5) answer_ok ∷ quiet (Claim 1 1024 9) (answer_refused 2) ∷ [])
+order_of_refusals =
+    played Continuous two_uses newest
+    (Open 1 5 ⇒ answer_ok ∷ Claim 1 1024 9 ⇒ answer_refused 2 ∷ [])
 
 -- a weight that is too high is refused before the dispatch's state is looked at
 abbrev pub order_at_opening : Example
-order_at_opening = played Continuous two_uses newest (quiet (Open 1 5) answer_ok ∷ quiet (Open 1 1001) (answer_refused 4) ∷ quiet (Open 1 1000) (answer_refused 6) ∷ [])
+order_at_opening =
+    played Continuous two_uses newest
+    (Open 1 5 ⇒ answer_ok ∷ Open 1 1001 ⇒ answer_refused 4
+    ∷ Open 1 1000 ⇒ answer_refused 6 ∷ [])
 
 -- a recalled dispatch is refused until it is acknowledged, once, and may then be opened again
 abbrev pub recalled_and_again : Example
 recalled_and_again =
     double_upgrade_and
-    (quiet (Open 2 1001) (answer_refused 4) ∷ quiet (Open 2 5) (answer_refused 5) ∷ quiet (Acknowledge 2) answer_ok ∷ quiet (Acknowledge 2) (answer_refused 10) ∷ quiet (Open 2 5) answer_ok ∷ [])
+    (Open 2 1001 ⇒ answer_refused 4 ∷ Open 2 5 ⇒ answer_refused 5
+    ∷ Acknowledge 2 ⇒ answer_ok ∷ Acknowledge 2 ⇒ answer_refused 10
+    ∷ Open 2 5 ⇒ answer_ok ∷ [])
 
 -- an order of another line: who holds at most one claim goes before who holds more
 abbrev pub one_or_more : Order
@@ -181,81 +221,104 @@ one_or_more a b = nat_le a.held 1 || nat_lt 1 b.held
 abbrev pub held_claims_only : Example
 held_claims_only =
     played Continuous two_uses one_or_more
-    (quiet (Open 1 5) answer_ok ∷ quiet (Open 2 5) answer_ok ∷ quiet (Claim 1 10 move) answer_granted ∷ quiet (Claim 2 11 move) answer_granted
-    ∷ quiet (Claim 2 12 move) answer_granted ∷ quiet (Claim 1 11 move) answer_waits
-    ∷ record { made = Claim 2 10 move; answer = answer_granted; recalls = (1 at 11) ∷ []; wakes = [] } ∷ [])
+    (Open 1 5 ⇒ answer_ok ∷ Open 2 5 ⇒ answer_ok
+    ∷ Claim 1 10 move ⇒ answer_granted ∷ Claim 2 11 move ⇒ answer_granted
+    ∷ Claim 2 12 move ⇒ answer_granted ∷ Claim 1 11 move ⇒ answer_waits
+    ∷ recalling (Claim 2 10 move ⇒ answer_granted) (1 at 11 ∷ []) ∷ [])
 
 -- up 0 to 5 and down 4 to 9 conflict, up 0 to 5 and down 5 to 9 do not, up 5 to 5 is unknown
 abbrev pub span_questions : Example
-span_questions = asked ((spans.conflict 65541 132105, true) ∷ (spans.conflict 65541 132361, false) ∷ (spans.known 66821, false) ∷ [])
+span_questions =
+    asked
+    ((spans.conflict 65541 132105, true) ∷ (spans.conflict 65541 132361, false)
+    ∷ (spans.known 66821, false) ∷ [])
 
--- the first calls of a cycle of three dispatches, of weights 9, 3 and 3, which hold one, two and three claims
+-- the first calls of a cycle of three dispatches, of weights 9, 3 and 3, which hold one, two and
+-- three claims
 abbrev pub three_holding_and : List Line → List Line
 three_holding_and ls =
-    quiet (Open 1 9) answer_ok ∷ quiet (Open 2 3) answer_ok ∷ quiet (Open 3 3) answer_ok ∷ quiet (Claim 1 10 move) answer_granted
-    ∷ quiet (Claim 2 11 move) answer_granted ∷ quiet (Claim 2 20 move) answer_granted ∷ quiet (Claim 3 12 move) answer_granted
-    ∷ quiet (Claim 3 21 move) answer_granted ∷ quiet (Claim 3 22 move) answer_granted ∷ quiet (Claim 1 11 move) answer_waits
-    ∷ quiet (Claim 2 12 move) answer_waits ∷ ls
+    Open 1 9 ⇒ answer_ok ∷ Open 2 3 ⇒ answer_ok ∷ Open 3 3 ⇒ answer_ok
+    ∷ Claim 1 10 move ⇒ answer_granted ∷ Claim 2 11 move ⇒ answer_granted
+    ∷ Claim 2 20 move ⇒ answer_granted ∷ Claim 3 12 move ⇒ answer_granted
+    ∷ Claim 3 21 move ⇒ answer_granted ∷ Claim 3 22 move ⇒ answer_granted
+    ∷ Claim 1 11 move ⇒ answer_waits ∷ Claim 2 12 move ⇒ answer_waits ∷ ls
 
 -- who holds the fewest claims is recalled
 abbrev pub fewest_of_three : Example
 fewest_of_three =
     played Continuous two_uses fewest
-    (three_holding_and (record { made = Claim 3 10 move; answer = answer_granted; recalls = (1 at 11) ∷ []; wakes = [] } ∷ []))
+    (three_holding_and (recalling (Claim 3 10 move ⇒ answer_granted) (1 at 11 ∷ []) ∷ []))
 
--- of a pair of orders the second counts where the first ties: of the two lightest, who holds fewer is recalled
+-- of a pair of orders the second counts where the first ties: of the two lightest, who holds fewer
+-- is recalled
 abbrev pub fewest_of_the_lightest : Example
 fewest_of_the_lightest =
     played Continuous two_uses (pair lightest fewest)
-    (three_holding_and (record { made = Claim 3 10 move; answer = answer_waits; recalls = (2 at 12) ∷ []; wakes = (1 at 11) ∷ [] } ∷ []))
+    (three_holding_and
+    (waking (recalling (Claim 3 10 move ⇒ answer_waits) (2 at 12 ∷ [])) (1 at 11 ∷ []) ∷ []))
 
 -- who waits can neither claim nor close, but may be withdrawn, which frees the number at once
 abbrev pub withdrawn : Example
 withdrawn =
     played Continuous two_uses newest
-    (quiet (Open 1 5) answer_ok ∷ quiet (Open 2 5) answer_ok ∷ quiet (Claim 1 7 move) answer_granted ∷ quiet (Claim 2 7 move) answer_waits
-    ∷ quiet (Claim 2 8 look) (answer_refused 8) ∷ quiet (Close 2) (answer_refused 8) ∷ quiet (Withdraw 2) answer_ok ∷ quiet (Withdraw 2) (answer_refused 7)
-    ∷ quiet (Open 2 5) answer_ok ∷ quiet (Claim 2 7 look) answer_waits
-    ∷ record { made = Withdraw 1; answer = answer_ok; recalls = []; wakes = (2 at 7) ∷ [] } ∷ quiet (Close 2) answer_ok ∷ [])
+    (Open 1 5 ⇒ answer_ok ∷ Open 2 5 ⇒ answer_ok
+    ∷ Claim 1 7 move ⇒ answer_granted ∷ Claim 2 7 move ⇒ answer_waits
+    ∷ Claim 2 8 look ⇒ answer_refused 8 ∷ Close 2 ⇒ answer_refused 8
+    ∷ Withdraw 2 ⇒ answer_ok ∷ Withdraw 2 ⇒ answer_refused 7
+    ∷ Open 2 5 ⇒ answer_ok ∷ Claim 2 7 look ⇒ answer_waits
+    ∷ waking (Withdraw 1 ⇒ answer_ok) (2 at 7 ∷ []) ∷ Close 2 ⇒ answer_ok ∷ [])
 
 -- the numbers that are too high, and those that are not
 abbrev pub limits : Example
 limits =
     played Continuous two_uses newest
-    (quiet (Open 64 1001) (answer_refused 1) ∷ quiet (Open 63 1001) (answer_refused 4) ∷ quiet (Open 63 1000) answer_ok ∷ quiet (Claim 63 1024 move) (answer_refused 2)
-    ∷ quiet (Claim 63 1023 2) (answer_refused 3) ∷ quiet (Claim 63 1023 move) answer_granted ∷ quiet (Close 62) (answer_refused 7) ∷ [])
+    (Open 64 1001 ⇒ answer_refused 1 ∷ Open 63 1001 ⇒ answer_refused 4
+    ∷ Open 63 1000 ⇒ answer_ok ∷ Claim 63 1024 move ⇒ answer_refused 2
+    ∷ Claim 63 1023 2 ⇒ answer_refused 3 ∷ Claim 63 1023 move ⇒ answer_granted
+    ∷ Close 62 ⇒ answer_refused 7 ∷ [])
 
--- 1 looks, 2 wants to move there and waits, 3 looks behind it and waits; 4 was recalled after 5 and it claimed each other's sections
+-- 1 looks, 2 wants to move there and waits, 3 looks behind it and waits; 4 was recalled after 5 and
+-- it claimed each other's sections
 abbrev pub queue : State
 queue =
     after two_uses newest (new Continuous)
-    (Open 1 5 ∷ Open 2 5 ∷ Open 3 5 ∷ Claim 1 7 look ∷ Claim 2 7 move ∷ Claim 3 7 look ∷ Open 5 5 ∷ Open 4 5 ∷ Claim 5 8 move ∷ Claim 4 9 move
-    ∷ Claim 5 9 move ∷ Claim 4 8 move ∷ [])
+    (Open 1 5 ∷ Open 2 5 ∷ Open 3 5 ∷ Claim 1 7 look ∷ Claim 2 7 move ∷ Claim 3 7 look
+    ∷ Open 5 5 ∷ Open 4 5 ∷ Claim 5 8 move ∷ Claim 4 9 move ∷ Claim 5 9 move ∷ Claim 4 8 move ∷ [])
 
 -- how the dispatches of the queue stand
 abbrev pub standing_in_the_queue : Example
 standing_in_the_queue =
     stood
-    ((condition_asked two_uses queue 1, Ok (Running, None)) ∷ (condition_asked two_uses queue 2, Ok (Waiting, Some 7))
-    ∷ (condition_asked two_uses queue 3, Ok (Waiting, Some 7)) ∷ (condition_asked two_uses queue 4, Ok (Recalled, None))
-    ∷ (condition_asked two_uses queue 5, Ok (Running, None)) ∷ (condition_asked two_uses queue 6, Ok (Free, None))
+    ((condition_asked two_uses queue 1, Ok (Running, None))
+    ∷ (condition_asked two_uses queue 2, Ok (Waiting, Some 7))
+    ∷ (condition_asked two_uses queue 3, Ok (Waiting, Some 7))
+    ∷ (condition_asked two_uses queue 4, Ok (Recalled, None))
+    ∷ (condition_asked two_uses queue 5, Ok (Running, None))
+    ∷ (condition_asked two_uses queue 6, Ok (Free, None))
     ∷ (condition_asked two_uses queue 64, Err 1) ∷ [])
 
 -- who waits for whom in the queue, and who holds section 7
 abbrev pub waiting_in_the_queue : Example
 waiting_in_the_queue =
     asked
-    ((waited_for two_uses queue 2 1, true) ∷ (waited_for two_uses queue 3 2, true) ∷ (waited_for two_uses queue 3 1, false)
-    ∷ (waited_for two_uses queue 1 2, false) ∷ (waited_for two_uses queue 64 1, false) ∷ (holders two_uses queue 7 1, true)
-    ∷ (holders two_uses queue 7 2, false) ∷ (holders two_uses queue 7 3, false) ∷ (holders two_uses queue 8 5, true) ∷ (holders two_uses queue 1024 1, false) ∷ [])
+    ((waited_for two_uses queue 2 1, true) ∷ (waited_for two_uses queue 3 2, true)
+    ∷ (waited_for two_uses queue 3 1, false) ∷ (waited_for two_uses queue 1 2, false)
+    ∷ (waited_for two_uses queue 64 1, false) ∷ (holders two_uses queue 7 1, true)
+    ∷ (holders two_uses queue 7 2, false) ∷ (holders two_uses queue 7 3, false)
+    ∷ (holders two_uses queue 8 5, true) ∷ (holders two_uses queue 1024 1, false) ∷ [])
 
 -- a report has the recalled first, then the woken, and then unused places
 abbrev pub full_report : Example
 full_report =
     reported
     ((
-      report_of ((4 at 12) ∷ (2 at 10) ∷ []) ((1 at 11) ∷ []),
-      record { recalled = 2; woken = 1; dispatches = 4 ∷ 2 ∷ 1 ∷ replicate 61 255; sections = 12 ∷ 10 ∷ 11 ∷ replicate 61 65535 },
+      report_of (4 at 12 ∷ 2 at 10 ∷ []) (1 at 11 ∷ []),
+      record {
+        recalled = 2;
+        woken = 1;
+        dispatches = 4 ∷ 2 ∷ 1 ∷ replicate 61 255;
+        sections = 12 ∷ 10 ∷ 11 ∷ replicate 61 65535;
+      },
     ) ∷ [])
 
 -- which of the two uses conflict
@@ -284,16 +347,22 @@ some_spans = 65541 ∷ 65796 ∷ 131332 ∷ 196613 ∷ []
 
 -- which of these spans conflict
 abbrev pub span_conflicts : Example
-span_conflicts = charted spans.conflict some_spans (codes "..xx" ∷ codes "..xx" ∷ codes "xx.x" ∷ codes "xxxx" ∷ [])
+span_conflicts =
+    charted spans.conflict some_spans
+    (codes "..xx" ∷ codes "..xx" ∷ codes "xx.x" ∷ codes "xxxx" ∷ [])
 
 -- which of these spans covers which
 abbrev pub span_covers : Example
-span_covers = charted spans.cover some_spans (codes "xx.." ∷ codes ".x.." ∷ codes "..x." ∷ codes "xxxx" ∷ [])
+span_covers =
+    charted spans.cover some_spans
+    (codes "xx.." ∷ codes ".x.." ∷ codes "..x." ∷ codes "xxxx" ∷ [])
 
 -- the table of examples
 abbrev pub examples : List Example
 examples =
-    sweep_of_a_new_book ∷ covered_claim ∷ two_stations ∷ double_upgrade ∷ behind_a_waiting_claim ∷ beside_a_waiting_claim ∷ lightest_of_three
-    ∷ periodic_of_three ∷ second_blocker ∷ two_cycles ∷ order_of_refusals ∷ span_questions
-    ∷ order_at_opening ∷ recalled_and_again ∷ held_claims_only ∷ fewest_of_three ∷ fewest_of_the_lightest ∷ withdrawn ∷ limits ∷ standing_in_the_queue
-    ∷ waiting_in_the_queue ∷ full_report ∷ two_conflicts ∷ two_covers ∷ five_conflicts ∷ five_covers ∷ span_conflicts ∷ span_covers ∷ []
+    sweep_of_a_new_book ∷ covered_claim ∷ two_stations ∷ double_upgrade ∷ behind_a_waiting_claim
+    ∷ beside_a_waiting_claim ∷ lightest_of_three ∷ periodic_of_three ∷ second_blocker ∷ two_cycles
+    ∷ order_of_refusals ∷ span_questions ∷ order_at_opening ∷ recalled_and_again
+    ∷ held_claims_only ∷ fewest_of_three ∷ fewest_of_the_lightest ∷ withdrawn ∷ limits
+    ∷ standing_in_the_queue ∷ waiting_in_the_queue ∷ full_report ∷ two_conflicts ∷ two_covers
+    ∷ five_conflicts ∷ five_covers ∷ span_conflicts ∷ span_covers ∷ []

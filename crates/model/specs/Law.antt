@@ -1,98 +1,122 @@
--- The law over runs: exclusion, progress and recall. `u` is the meaning of the use table, `o` that of the recall order.
-use Rattle.std.specs.Prelude.{◌≡◌, ℕ, ◌≤◌, true, false, ◌⊎◌, List, [], ◌∷◌, ◌++◌, length, ◌≢◌}
+-- The law over runs: exclusion, progress and recall.
+-- `u` is the meaning of the use table, `o` that of the recall order.
+use Rattle.std.specs.Prelude.{◌≡◌, ◌≢◌, ℕ, ◌<◌, true, false, ⊤, ◌⊎◌, ◌↔◌, List, [], ◌∷◌, ◌++◌, length}
 use Rattle.uses.specs.Relations.{Relations}
-use Rattle.model.specs.Graph.{OnCycle, CycleStands, Chain, end_of}
+use Rattle.model.specs.Graph.{OnCycle, HasCycle, Chain, end_of}
 use Rattle.model.specs.Claims.{dispatch_waits, waits_for}
 use Rattle.model.specs.State.{State, is_open, recall, state_with_claim}
 use Rattle.model.specs.Recalling.{Order, strictly_before}
-use Rattle.model.specs.Calls.{ModelAnswer, answer_granted, answer_covered, answer_waits, answer_recalled, answer_ok, answer_refused}
-use Rattle.model.specs.Runs.{Run, at, outcome, EachMoment, EachCall, Granted}
+use Rattle.model.specs.Calls.{ModelAnswer, answer_granted, answer_waits, answer_recalled, claim_of}
+use Rattle.model.specs.Runs.{Run, at, outcome, EachMoment, EachCall, HasGrant}
 use Rattle.model.specs.declared.call.Call.{Call}
 use Rattle.model.specs.declared.call.Call.TheVariants as call
+use Rattle.model.specs.declared.limits.TheConstants.{DISPATCHES}
 use Rattle.model.specs.declared.report.ReportEntry.{ReportEntry}
 use Rattle.model.specs.declared.state.Detection.TheVariants.{Continuous}
 
--- two different open dispatches that were both granted uses of one section, since opening, were granted uses that do not conflict
-abbrev pub Exclusion : Relations → Order → Run → Type 0
-Exclusion u o r =
-    (d e section mode_d mode_e : ℕ) → (d ≢ e) → Granted u o r d section mode_d → Granted u o r e section mode_e → u.conflict mode_d mode_e ≡ false
-
--- waits end: no chain of waits from an open dispatch has more than 63 steps, and one that cannot be prolonged ends at an open dispatch that runs
-pub record WaitsEnd (u : Relations) (s : State) : Type 0 where
-  pub short : (d : ℕ) (es : List ℕ) → is_open s d ≡ true → Chain (waits_for u s.claims) d es → length es ≤ 63
-  pub ends_running : (d : ℕ) (es : List ℕ) → is_open s d ≡ true → Chain (waits_for u s.claims) d es → ((f : ℕ) → waits_for u s.claims (end_of d es) f ≡ false) → (is_open s (end_of d es) ≡ true) × (dispatch_waits u s.claims (end_of d es) ≡ false)
-
--- waits end after every call of a continuous run, and after every sweep of a periodic one
-abbrev pub Progress : Relations → Order → Run → Call → Type 0
-Progress u o r c = ((at u o r).detection ≡ Continuous) ⊎ (c ≡ call.Sweep) → WaitsEnd u (outcome u o r c).state
-
--- both or neither
-abbrev pub Iff : Type 0 → Type 0 → Type 0
-Iff P Q = (P → Q) × (Q → P)
-
--- the call recalls somebody
-abbrev pub RecallsSomebody : Relations → Order → Run → Call → Type 0
-RecallsSomebody u o r c = (outcome u o r c).recalls ≡ [] → ⊥
-
 -- the answer to a claim that is entered: neither covered nor a refusal
 abbrev pub IsEntered : ModelAnswer → Type 0
-IsEntered answer_ok = ⊥
-IsEntered answer_granted = Unit {0}
-IsEntered answer_covered = ⊥
-IsEntered answer_waits = Unit {0}
-IsEntered answer_recalled = Unit {0}
-IsEntered (answer_refused n) = ⊥
+IsEntered answer_granted = ⊤
+IsEntered answer_waits = ⊤
+IsEntered answer_recalled = ⊤
+IsEntered _ = ⊥
 
 -- the call is a claim, and it is entered
 abbrev pub EntersClaim : Call → ModelAnswer → Type 0
-EntersClaim (call.Open d weight) a = ⊥
 EntersClaim (call.Claim d section mode) a = IsEntered a
-EntersClaim (call.Close d) a = ⊥
-EntersClaim (call.Withdraw d) a = ⊥
-EntersClaim (call.Acknowledge d) a = ⊥
-EntersClaim call.Sweep a = ⊥
+EntersClaim _ a = ⊥
 
 -- the state once the call's claim, if it has one, is entered
 abbrev pub once_entered : Call → State → State
-once_entered (call.Open d weight) s = s
-once_entered (call.Claim d section mode) s = state_with_claim (record { dispatch = d; section = section; mode = mode }) s
-once_entered (call.Close d) s = s
-once_entered (call.Withdraw d) s = s
-once_entered (call.Acknowledge d) s = s
-once_entered call.Sweep s = s
+once_entered (call.Claim d section mode) s = state_with_claim (claim_of d section mode) s
+once_entered _ s = s
 
 -- the state once the named are recalled, one after another
 abbrev pub once_recalled : List ReportEntry → State → State
 once_recalled [] s = s
 once_recalled (n ∷ ns) s = once_recalled ns (recall n.dispatch s)
 
--- the state just before a recall: the call's claim, if it has one, is entered, and the call's earlier recalls are done
-abbrev pub just_before : Relations → Order → Run → Call → List ReportEntry → State
-just_before u o r c earlier = once_recalled earlier (once_entered c (at u o r))
+module _ (u : Relations) (s : State) where
+  -- the dispatch is open, and no claim of it waits
+  abbrev pub IsRunning : ℕ → Type 0
+  IsRunning d = (is_open s d ≡ true) × (dispatch_waits u s.claims d ≡ false)
 
--- when a call recalls somebody
-pub record RecallWhen (u : Relations) (o : Order) (r : Run) (c : Call) : Type 0 where
-  -- a claim that is entered in a continuous run: exactly when a cycle stands once it is entered
-  pub by_claim : (at u o r).detection ≡ Continuous → EntersClaim c (outcome u o r c).answer → Iff (RecallsSomebody u o r c) (CycleStands (waits_for u (once_entered c (at u o r)).claims))
-  -- a sweep, in either detection: exactly when a cycle stood before it
-  pub by_sweep : c ≡ call.Sweep → Iff (RecallsSomebody u o r c) (CycleStands (waits_for u (at u o r).claims))
-  -- no other call
-  pub by_no_other : RecallsSomebody u o r c → (c ≡ call.Sweep) ⊎ (((at u o r).detection ≡ Continuous) × EntersClaim c (outcome u o r c).answer)
+  -- a chain of waits: from an open dispatch, each step to one for which the one before it waits
+  abbrev pub ChainOfWaits : ℕ → List ℕ → Type 0
+  ChainOfWaits d es = (is_open s d ≡ true) × Chain (waits_for u s.claims) d es
 
--- whom a call recalls
-pub record RecallWhom (u : Relations) (o : Order) (r : Run) (c : Call) : Type 0 where
-  -- just before its recall it was on a cycle
-  pub was_on_cycle : (earlier later : List ReportEntry) (n : ReportEntry) → (outcome u o r c).recalls ≡ earlier ++ n ∷ later → OnCycle (waits_for u (just_before u o r c earlier).claims) n.dispatch
-  -- and nobody on a cycle then went strictly before it in the recall order, by the summaries of that state
-  pub none_before : (earlier later : List ReportEntry) (n : ReportEntry) → (outcome u o r c).recalls ≡ earlier ++ n ∷ later → (e : ℕ) → OnCycle (waits_for u (just_before u o r c earlier).claims) e → strictly_before u o (just_before u o r c earlier) e n.dispatch ≡ false
+  -- a chain is complete when it cannot be prolonged: where it ends, nobody is waited for
+  abbrev pub IsComplete : ℕ → List ℕ → Type 0
+  IsComplete d es = (f : ℕ) → waits_for u s.claims (end_of d es) f ≡ false
 
--- the law over runs
-pub record Law (u : Relations) (o : Order) (r : Run) : Type 0 where
-  -- exclusion: at no moment have two different open dispatches both been granted, since opening, conflicting uses of one section
-  pub exclusion : EachMoment (Exclusion u o) r
-  -- progress: waits end
-  pub progress : EachCall (Progress u o) r
-  -- recall: exactly when a claim that is entered closes a cycle, or a sweep finds one
-  pub recall_when : EachCall (RecallWhen u o) r
-  -- recall: the right dispatch
-  pub recall_whom : EachCall (RecallWhom u o) r
+  -- waits end: every chain of waits has at most 63 steps, and if complete ends at one that runs
+  pub record WaitsEnd : Type 0 where
+    pub short : (d : ℕ) (es : List ℕ) → ChainOfWaits d es → length es < DISPATCHES
+    pub ends_running :
+        (d : ℕ) (es : List ℕ) → ChainOfWaits d es → IsComplete d es → IsRunning (end_of d es)
+
+module _ (u : Relations) (o : Order) where
+  -- where two different dispatches have grants of one section, since opening, the uses do not
+  -- conflict
+  abbrev pub Exclusion : Run → Type 0
+  Exclusion r =
+      (d e section mode_d mode_e : ℕ) → d ≢ e
+      → HasGrant u o r d section mode_d → HasGrant u o r e section mode_e
+      → u.conflict mode_d mode_e ≡ false
+
+  -- waits end after every call of a continuous run, and after every sweep of a periodic one
+  abbrev pub Progress : Run → Call → Type 0
+  Progress r c =
+      ((at u o r).detection ≡ Continuous) ⊎ (c ≡ call.Sweep) → WaitsEnd u (outcome u o r c).state
+
+  -- the call recalls somebody
+  abbrev pub RecallsSomebody : Run → Call → Type 0
+  RecallsSomebody r c = (outcome u o r c).recalls ≢ []
+
+  -- the call enters a claim, and the run is continuous
+  abbrev pub IsContinuousEntry : Run → Call → Type 0
+  IsContinuousEntry r c =
+      ((at u o r).detection ≡ Continuous) × EntersClaim c (outcome u o r c).answer
+
+  -- when a call recalls somebody
+  pub record RecallWhen (r : Run) (c : Call) : Type 0 where
+    -- an entry in a continuous run: exactly when a cycle stands once the claim is entered
+    pub by_claim :
+        IsContinuousEntry r c
+        → (RecallsSomebody r c ↔ HasCycle (waits_for u (once_entered c (at u o r)).claims))
+    -- a sweep, in either detection: exactly when a cycle stood before it
+    pub by_sweep :
+        c ≡ call.Sweep → (RecallsSomebody r c ↔ HasCycle (waits_for u (at u o r).claims))
+    -- no other call
+    pub by_no_other : RecallsSomebody r c → (c ≡ call.Sweep) ⊎ IsContinuousEntry r c
+
+  -- the right dispatch to recall in a state: a deadlock victim, the first by the recall order
+  pub record IsRightVictim (s : State) (d : ℕ) : Type 0 where
+    -- it is on a cycle of waits
+    pub on_cycle : OnCycle (waits_for u s.claims) d
+    -- and nobody on a cycle goes strictly before it, by the summaries of the state
+    pub none_before :
+        (e : ℕ) → OnCycle (waits_for u s.claims) e → strictly_before u o s e d ≡ false
+
+  -- the state just before a recall: the call's claim, if it has one, is entered, and those whom
+  -- the call recalled earlier are gone
+  abbrev pub just_before : Run → Call → List ReportEntry → State
+  just_before r c earlier = once_recalled earlier (once_entered c (at u o r))
+
+  -- whom a call recalls: each was the right one just before its recall
+  abbrev pub RecallWhom : Run → Call → Type 0
+  RecallWhom r c =
+      (earlier later : List ReportEntry) (n : ReportEntry)
+      → (outcome u o r c).recalls ≡ earlier ++ n ∷ later
+      → IsRightVictim (just_before r c earlier) n.dispatch
+
+  -- the law over runs
+  pub record Law (r : Run) : Type 0 where
+    -- exclusion: two open dispatches never hold grants, since opening, whose uses conflict
+    pub exclusion : EachMoment Exclusion r
+    -- progress: waits end
+    pub progress : EachCall Progress r
+    -- recall: exactly when a claim that is entered closes a cycle, or a sweep finds one
+    pub recall_when : EachCall RecallWhen r
+    -- recall: the right dispatch
+    pub recall_whom : EachCall RecallWhom r

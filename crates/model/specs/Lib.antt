@@ -3,6 +3,7 @@ pub mod Graph
 pub mod Claims
 pub mod State
 pub mod Recalling
+pub mod Report
 pub mod Calls
 pub mod Questions
 pub mod Runs
@@ -12,3 +13,5 @@ pub mod Firsts
 pub mod Examples
 pub mod LawExamples
 pub mod Theorems
+pub use Rattle.uses.specs.Relations
+pub use Rattle.orders.specs.Laws

@@ -7,20 +7,24 @@ use Rattle.model.specs.Calls.{number_too_high, section_too_high}
 use Rattle.model.specs.declared.state.Condition.{Condition}
 use Rattle.model.specs.declared.state.Condition.TheVariants.{Free, Running, Waiting, Recalled}
 
--- how a dispatch stands
-abbrev pub condition : Relations → State → ℕ → Condition
-condition u s d =
-    if s.recalled d then Recalled else if is_open s d then (if dispatch_waits u s.claims d then Waiting else Running) else Free
+module _ (u : Relations) (s : State) where
+  -- how a dispatch stands
+  abbrev pub condition : ℕ → Condition
+  condition d =
+      if s.recalled d then Recalled
+      else if is_open s d then (if dispatch_waits u s.claims d then Waiting else Running)
+      else Free
 
--- a dispatch's condition and the section for which it waits, if it waits; refused by 1
-abbrev pub condition_asked : Relations → State → ℕ → Result (Condition × Option ℕ) ℕ
-condition_asked u s d =
-    if (number_too_high d).0 then Err (number_too_high d).1 else Ok (condition u s d, waiting_section u s.claims d)
+  -- a dispatch's condition and the section for which it waits, if it waits; refused by 1
+  abbrev pub condition_asked : ℕ → Result (Condition × Option ℕ) ℕ
+  condition_asked d =
+      if (number_too_high d).0 then Err (number_too_high d).1
+      else Ok (condition d, waiting_section u s.claims d)
 
--- the dispatches for which a dispatch waits; refused by 1, with all marks off
-abbrev pub waited_for : Relations → State → ℕ → ℕ → Bool
-waited_for u s d e = not (number_too_high d).0 && waits_for u s.claims d e
+  -- the dispatches for which a dispatch waits; refused by 1, with all marks off
+  abbrev pub waited_for : ℕ → ℕ → Bool
+  waited_for d e = not (number_too_high d).0 && waits_for u s.claims d e
 
--- the dispatches with a held claim on a section; refused by 2, with all marks off
-abbrev pub holders : Relations → State → ℕ → ℕ → Bool
-holders u s section e = not (section_too_high section).0 && holds u s.claims section e
+  -- the dispatches with a held claim on a section; refused by 2, with all marks off
+  abbrev pub holders : ℕ → ℕ → Bool
+  holders section e = not (section_too_high section).0 && holds u s.claims section e

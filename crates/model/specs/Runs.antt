@@ -1,7 +1,8 @@
--- Runs: finite lists of calls from the state of a new book, and what was granted in them. `u` is the meaning of the use table, `o` that of the recall order.
+-- Runs: finite lists of calls from the state of a new book, and what was granted in them.
+-- `u` is the meaning of the use table, `o` that of the recall order.
 use Rattle.std.specs.Prelude.{◌≡◌, ℕ, true, ◌&&◌, List, ◌==◌}
+use Rattle.std.specs.List.{list_any}
 use Rattle.uses.specs.Relations.{Relations}
-use Rattle.model.specs.Search.{any}
 use Rattle.model.specs.Claims.{claim_waits}
 use Rattle.model.specs.State.{State, new, is_open}
 use Rattle.model.specs.Recalling.{Order}
@@ -16,16 +17,7 @@ pub data Run : Type 0 where
   start : Detection → Run
   next : Run → Call → Run
 
--- the state at the end of a run
-abbrev pub at : Relations → Order → Run → State
-at u o (start detection) = new detection
-at u o (next r c) = (step u o (at u o r) c).state
-
--- a run's last call, after the run before it: the answer, the recalled and the woken, and the state left
-abbrev pub outcome : Relations → Order → Run → Call → Outcome
-outcome u o r c = step u o (at u o r) c
-
--- a moment is the start of a run or the end of one of its calls; the fact holds at every moment
+-- the fact holds at every moment: at the start of the run, and at the end of each of its calls
 abbrev pub EachMoment : (Run → Type 0) → Run → Type 0
 EachMoment P (start detection) = P (start detection)
 EachMoment P (next r c) = EachMoment P r × P (next r c)
@@ -36,16 +28,38 @@ EachCall P (start detection) = Unit {0}
 EachCall P (next r c) = EachCall P r × P r c
 
 -- the list names the dispatch with the section
-abbrev pub names : List ReportEntry → ℕ → ℕ → Type 0
-names ns d section = any (λ n. (n.dispatch == d) && n.section == section) ns ≡ true
+abbrev pub Names : List ReportEntry → ℕ → ℕ → Type 0
+Names ns d section = list_any (λ n. (n.dispatch == d) && n.section == section) ns ≡ true
 
--- a call grants a dispatch a use of a section: by its answer, or by naming the dispatch as woken, for the claim that waited
-pub data Grants (u : Relations) (o : Order) (r : Run) (c : Call) (d section mode : ℕ) : Type 0 where
-  by_grant : c ≡ call.Claim d section mode → (outcome u o r c).answer ≡ answer_granted → Grants u o r c d section mode
-  by_cover : c ≡ call.Claim d section mode → (outcome u o r c).answer ≡ answer_covered → Grants u o r c d section mode
-  by_wake : names (outcome u o r c).wakes d section → claim_waits u (at u o r).claims d section mode ≡ true → Grants u o r c d section mode
+module _ (u : Relations) (o : Order) where
+  -- the state at the end of a run
+  abbrev pub at : Run → State
+  at (start detection) = new detection
+  at (next r c) = (step u o (at r) c).state
 
--- the dispatch was granted the use of the section, and has been open at every moment since
-pub data Granted (u : Relations) (o : Order) : Run → ℕ → ℕ → ℕ → Type 0 where
-  just_now : {r : Run} {c : Call} {d section mode : ℕ} → Grants u o r c d section mode → is_open (at u o (next r c)) d ≡ true → Granted u o (next r c) d section mode
-  before : {r : Run} {c : Call} {d section mode : ℕ} → Granted u o r d section mode → is_open (at u o (next r c)) d ≡ true → Granted u o (next r c) d section mode
+  -- what a run's last call gives, after the run before it
+  abbrev pub outcome : Run → Call → Outcome
+  outcome r c = step u o (at r) c
+
+  -- a call grants a dispatch a use of a section
+  pub data Grants (r : Run) (c : Call) (d section mode : ℕ) : Type 0 where
+    -- by its answer
+    by_grant :
+        c ≡ call.Claim d section mode → (outcome r c).answer ≡ answer_granted
+        → Grants r c d section mode
+    by_cover :
+        c ≡ call.Claim d section mode → (outcome r c).answer ≡ answer_covered
+        → Grants r c d section mode
+    -- by naming the dispatch as woken, for the claim that waited
+    by_wake :
+        Names (outcome r c).wakes d section → claim_waits u (at r).claims d section mode ≡ true
+        → Grants r c d section mode
+
+  -- the dispatch was granted the use of the section, and has been open at every moment since
+  pub data HasGrant : Run → ℕ → ℕ → ℕ → Type 0 where
+    just_now :
+        {r : Run} {c : Call} {d section mode : ℕ} → Grants r c d section mode
+        → is_open (at (next r c)) d ≡ true → HasGrant (next r c) d section mode
+    before :
+        {r : Run} {c : Call} {d section mode : ℕ} → HasGrant r d section mode
+        → is_open (at (next r c)) d ≡ true → HasGrant (next r c) d section mode

@@ -1,10 +1,9 @@
 -- The theorems, each for every use table and every recall order that keeps its laws.
-use Rattle.std.specs.Prelude.{◌≡◌, ℕ, ◌+◌, ◌≤◌, Bool, true, false, List, [], ◌∷◌, ◌++◌, length, Some, Decides, filter}
-use Rattle.std.specs.List.{AllByRecursion}
+use Rattle.std.specs.Prelude.{◌≡◌, ℕ, ◌+◌, ◌≤◌, ◌↔◌, Bool, false, List, [], ◌∷◌, ◌++◌, length, IsTrue, Some, filter}
+use Rattle.std.specs.List.{AllByRecursion, list_any}
 use Rattle.uses.specs.Relations.{Relations, UseLaws}
 use Rattle.orders.specs.Laws.{OrderLaws}
-use Rattle.model.specs.Search.{any, member}
-use Rattle.model.specs.Graph.{OnCycle, on_cycle}
+use Rattle.model.specs.Graph.{OnCycle, LeadsInto, on_cycle}
 use Rattle.model.specs.Claims.{blocks, waits_for}
 use Rattle.model.specs.State.{State, new, numbers}
 use Rattle.model.specs.Recalling.{Order, first}
@@ -12,10 +11,11 @@ use Rattle.model.specs.Calls.{step, answer_refused}
 use Rattle.model.specs.Invariant.{WellFormed, Invariant}
 use Rattle.model.specs.Firsts.{IsFirst}
 use Rattle.model.specs.Runs.{Run}
-use Rattle.model.specs.Law.{Law, Iff}
-use Rattle.model.specs.Examples.{examples, Right}
+use Rattle.model.specs.Law.{Law}
+use Rattle.model.specs.Examples.{examples, IsRight}
 use Rattle.model.specs.declared.call.Call.{Call}
 use Rattle.model.specs.declared.call.Call.TheVariants as call
+use Rattle.model.specs.declared.limits.TheConstants.{DISPATCHES, CLAIMS}
 use Rattle.model.specs.declared.state.Claim.{Claim}
 use Rattle.model.specs.declared.state.Detection.{Detection}
 
@@ -23,42 +23,59 @@ use Rattle.model.specs.declared.state.Detection.{Detection}
 abbrev pub LawOverRuns : Type 0
 LawOverRuns = (u : Relations) → UseLaws u → (o : Order) → OrderLaws o → (r : Run) → Law u o r
 
+-- every call keeps the invariant
+abbrev pub CallsKeepInvariant : Relations → Order → Type 0
+CallsKeepInvariant u o = (s : State) → Invariant u s → (c : Call) → Invariant u (step u o s c).state
+
 -- the invariant holds of a new book, and every call keeps it
 abbrev pub InvariantKept : Type 0
 InvariantKept =
-    (u : Relations) → ((detection : Detection) → Invariant u (new detection))
-    × ((o : Order) → OrderLaws o → (s : State) → Invariant u s → (c : Call) → Invariant u (step u o s c).state)
+    (u : Relations)
+    → ((detection : Detection) → Invariant u (new detection))
+    × ((o : Order) → OrderLaws o → CallsKeepInvariant u o)
 
--- the test for being on a cycle agrees with the inductive definition, for every relation whose steps lead to listed numbers
+-- the test for being on a cycle agrees with the inductive definition
 abbrev pub CycleTestExact : Type 0
 CycleTestExact =
-    (ks : List ℕ) (r : ℕ → ℕ → Bool) → ((a b : ℕ) → r a b ≡ true → member b ks ≡ true) → (a : ℕ) → Decides (on_cycle ks r a) (OnCycle r a)
+    (ks : List ℕ) (r : ℕ → ℕ → Bool) → LeadsInto ks r
+    → (a : ℕ) → (IsTrue (on_cycle ks r a) ↔ OnCycle r a)
 
 -- every step of waiting leads to an open dispatch
 abbrev pub StepsLeadToOpen : Type 0
 StepsLeadToOpen =
-    (u : Relations) (s : State) → WellFormed u s → (a b : ℕ) → waits_for u s.claims a b ≡ true → member b (numbers s.opened) ≡ true
+    (u : Relations) (s : State) → WellFormed u s
+    → LeadsInto (numbers s.opened) (waits_for u s.claims)
 
--- the first of a set of open dispatches is the one that nobody of the set goes strictly before, of greatest standing among several; so there is only one
+-- the open dispatches that pass a test, in order of opening
+abbrev pub open_passing : State → (ℕ → Bool) → List ℕ
+open_passing s passes = filter passes (numbers s.opened)
+
+-- of every set of open dispatches, the first is as it should be; so there is only one
 abbrev pub FirstExact : Type 0
 FirstExact =
-    (u : Relations) (o : Order) → OrderLaws o → (s : State) → WellFormed u s → (among : ℕ → Bool) (d : ℕ) → Iff (first u o s (filter among (numbers s.opened)) ≡ Some d) (IsFirst u o s (filter among (numbers s.opened)) d)
+    (u : Relations) (o : Order) → OrderLaws o → (s : State) → WellFormed u s
+    → (among : ℕ → Bool) (d : ℕ)
+    → ((first u o s (open_passing s among) ≡ Some d) ↔ IsFirst u o s (open_passing s among) d)
 
 -- who is recalled and who is woken by one call are together at most 64
 abbrev pub ReportFits : Type 0
 ReportFits =
-    (u : Relations) (o : Order) → OrderLaws o → (s : State) → Invariant u s → (c : Call) → length (step u o s c).recalls + length (step u o s c).wakes ≤ 64
+    (u : Relations) (o : Order) → OrderLaws o → (s : State) → Invariant u s → (c : Call)
+    → length (step u o s c).recalls + length (step u o s c).wakes ≤ DISPATCHES
 
 -- a claim is refused for want of room only where 512 claims stand
 abbrev pub RefusedWhenFull : Type 0
 RefusedWhenFull =
-    (u : Relations) (o : Order) (s : State) → Invariant u s → (d section mode : ℕ) → (step u o s (call.Claim d section mode)).answer ≡ answer_refused 9 → length s.claims ≡ 512
+    (u : Relations) (o : Order) (s : State) → Invariant u s → (d section mode : ℕ)
+    → (step u o s (call.Claim d section mode)).answer ≡ answer_refused 9
+    → length s.claims ≡ CLAIMS
 
 -- a claim that nothing blocks adds no step of waiting
 abbrev pub NoNewStep : Type 0
 NoNewStep =
-    (u : Relations) (cs : List Claim) (c : Claim) → any (λ b. blocks u b c) cs ≡ false → (d e : ℕ) → waits_for u (cs ++ c ∷ []) d e ≡ waits_for u cs d e
+    (u : Relations) (cs : List Claim) (c : Claim) → list_any (λ b. blocks u b c) cs ≡ false
+    → (d e : ℕ) → waits_for u (cs ++ c ∷ []) d e ≡ waits_for u cs d e
 
 -- the worked examples are right
 abbrev pub ExamplesRight : Type 0
-ExamplesRight = AllByRecursion Right examples
+ExamplesRight = AllByRecursion IsRight examples

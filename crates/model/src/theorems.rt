@@ -1,50 +1,52 @@
 // The theorems. Each function does nothing: its contract is what is proved, for every use table and
 // every recall order that keeps its laws.
-ghost use Rattle.model.specs.Theorems.{LawOverRuns, InvariantKept, CycleTestExact, StepsLeadToOpen, FirstExact, ReportFits, RefusedWhenFull, NoNewStep, ExamplesRight};
+ghost use Rattle.model.specs.Theorems.{LawOverRuns, InvariantKept, CycleTestExact};
+ghost use Rattle.model.specs.Theorems.{StepsLeadToOpen, FirstExact, ReportFits, RefusedWhenFull};
+ghost use Rattle.model.specs.Theorems.{NoNewStep, ExamplesRight};
 ghost use Rattle.model.specs.LawExamples.{LawExamplesRight};
 
-// Exclusion, progress and recall hold of every run of calls.
+/// Exclusion, progress and recall hold of every run of calls.
 pub fn law_over_runs()
     ensures { LawOverRuns }
 {}
 
-// The invariant holds of a new book, and every call keeps it.
+/// The invariant holds of a new book, and every call keeps it.
 pub fn invariant_is_kept()
     ensures { InvariantKept }
 {}
 
-// The computed test for being on a cycle agrees with the inductive definition.
+/// The computed test for being on a cycle agrees with the inductive definition.
 pub fn cycle_test_is_exact()
     ensures test { CycleTestExact }
     ensures applies { StepsLeadToOpen }
 {}
 
-// The first of a set of open dispatches is as the rule says, and there is only one.
+/// The first of a set of open dispatches is as the rule says, and there is only one.
 pub fn first_is_unique()
     ensures { FirstExact }
 {}
 
-// The recalled and the woken of a call fit the 64 places of a report.
+/// The recalled and the woken of a call fit the 64 places of a report.
 pub fn report_fits()
     ensures { ReportFits }
 {}
 
-// A claim is refused for want of room only where 512 claims stand.
+/// A claim is refused for want of room only where 512 claims stand.
 pub fn refused_when_full()
     ensures { RefusedWhenFull }
 {}
 
-// A claim that nothing blocks adds no step of waiting, so it closes no cycle.
+/// A claim that nothing blocks adds no step of waiting, so it closes no cycle.
 pub fn unblocked_claim_adds_no_step()
     ensures { NoNewStep }
 {}
 
-// The worked examples come out as they should.
+/// The worked examples come out as they should.
 pub fn worked_examples()
     ensures { ExamplesRight }
 {}
 
-// The law says of given runs what it should: who was granted what, and where it is broken.
+/// The law says of given runs what it should: who was granted what, and where it is broken.
 pub fn law_examples()
     ensures { LawExamplesRight }
 {}

@@ -4,7 +4,7 @@ ghost use Rattle.std.proofs.Common.{rules};
 
 use crate::order::{RecallOrder, Summary};
 
-// The first order, and where it ties, the second.
+/// The first order, and where it ties, the second.
 #[derive(Clone, Copy, Debug, Default)]
 pub struct Then<A, B> {
     pub first: A,

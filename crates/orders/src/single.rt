@@ -1,12 +1,10 @@
 // The orders that look at one number of the summary.
-// Kept: each of the three is a type for its one comparison and its meaning. A type generic in the
-// number would need one more trait, and a type for each number all the same.
 ghost use Rattle.orders.specs.Orders.{newest, lightest, fewest};
 ghost use Rattle.std.proofs.Common.{rules};
 
 use crate::order::{RecallOrder, Summary};
 
-// Who was opened later goes earlier.
+/// Who was opened later goes earlier.
 #[derive(Clone, Copy, Debug, Default)]
 pub struct Newest;
 
@@ -20,7 +18,7 @@ impl RecallOrder for Newest {
     }
 }
 
-// Who weighs less goes earlier.
+/// Who weighs less goes earlier.
 #[derive(Clone, Copy, Debug, Default)]
 pub struct Lightest;
 
@@ -34,7 +32,7 @@ impl RecallOrder for Lightest {
     }
 }
 
-// Who holds fewer claims goes earlier.
+/// Who holds fewer claims goes earlier.
 #[derive(Clone, Copy, Debug, Default)]
 pub struct Fewest;
 

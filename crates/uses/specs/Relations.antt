@@ -1,7 +1,7 @@
 -- What a use table means, and the laws that every use table keeps.
 use Rattle.std.specs.Prelude.{◌≡◌, ℕ, Bool, true}
 
--- The meaning of a use table: three relations on use codes.
+-- The meaning of a use table: three relations on use codes (lock modes).
 pub record Relations : Type 0 where
   -- the code is a use of this table
   pub known : ℕ → Bool
@@ -10,7 +10,8 @@ pub record Relations : Type 0 where
   -- who has the first use has no need to claim the second
   pub cover : ℕ → ℕ → Bool
 
--- The laws of a use table. With an unknown code, conflict and cover are both no; the other three speak of known uses.
+-- The laws of a use table. The first two say that unknown codes neither conflict nor cover, the
+-- other three speak of known uses.
 pub record UseLaws (m : Relations) : Type 0 where
   -- only known uses conflict
   pub conflict_known : (a b : ℕ) → m.conflict a b ≡ true → (m.known a ≡ true) × (m.known b ≡ true)
@@ -20,5 +21,5 @@ pub record UseLaws (m : Relations) : Type 0 where
   pub symmetric : (a b : ℕ) → m.conflict a b ≡ true → m.conflict b a ≡ true
   -- each known use covers itself
   pub reflexive : (a : ℕ) → m.known a ≡ true → m.cover a a ≡ true
-  -- where a covers b, every use that conflicts with b conflicts with a
+  -- a use conflicts with whatever a use that it covers conflicts with
   pub dominates : (a b c : ℕ) → m.cover a b ≡ true → m.conflict c b ≡ true → m.conflict c a ≡ true

@@ -9,13 +9,16 @@ use Rattle.uses.specs.declared.spans.Span.{Span}
 use Rattle.uses.specs.Fields.{share_symmetric, has_its_own, share_more}
 
 -- only known codes stand in a relation between spans
-both_known : (r : Span → Span → Bool) (o p : Option Span) → between r o p ≡ true → (is_some o ≡ true) × (is_some p ≡ true)
+both_known :
+    (r : Span → Span → Bool) (o p : Option Span) → between r o p ≡ true
+    → (is_some o ≡ true) × (is_some p ≡ true)
 both_known r None p h = absurd (false≢true h)
 both_known r (Some s) None h = absurd (false≢true h)
 both_known r (Some s) (Some t) h = (refl, refl)
 
 -- conflict is symmetric
-symmetric : (o p : Option Span) → between spans_conflict o p ≡ true → between spans_conflict p o ≡ true
+symmetric :
+    (o p : Option Span) → between spans_conflict o p ≡ true → between spans_conflict p o ≡ true
 symmetric None p h = absurd (false≢true h)
 symmetric (Some s) None h = absurd (false≢true h)
 symmetric (Some s) (Some t) h = grind (arith, nat_tests, share_symmetric s t)
@@ -26,7 +29,9 @@ reflexive None h = absurd (false≢true h)
 reflexive (Some s) h = grind (arith, nat_tests, has_its_own s)
 
 -- what conflicts with a covered span conflicts with the covering one
-dominates : (o p q : Option Span) → between span_covers o p ≡ true → between spans_conflict q p ≡ true → between spans_conflict q o ≡ true
+dominates :
+    (o p q : Option Span) → between span_covers o p ≡ true → between spans_conflict q p ≡ true
+    → between spans_conflict q o ≡ true
 dominates None p q h k = absurd (false≢true h)
 dominates (Some s) None q h k = absurd (false≢true h)
 dominates (Some s) (Some t) None h k = absurd (false≢true k)

@@ -1,5 +1,5 @@
 -- The table of spans: a use is a direction and a run of a section's fields.
-use Rattle.std.specs.Prelude.{◌≡◌, ℕ, zero, suc, ◌+◌, ◌*◌, ◌/◌, ◌%◌, ◌<◌, ◌≤◌, Bool, true, false, cond, not, ◌&&◌, ◌||◌, is_some, Some, None, Option, ◌==◌, nat_le, nat_lt, List, ◌++◌, codes, decimal}
+use Rattle.std.specs.Prelude.{◌≡◌, ℕ, zero, suc, ◌+◌, ◌*◌, ◌/◌, ◌%◌, ◌<◌, ◌≤◌, Bool, true, false, if◌then◌else◌, not, ◌&&◌, ◌||◌, is_some, Some, None, Option, ◌==◌, nat_le, nat_lt, List, ◌++◌, codes, decimal}
 use Rattle.uses.specs.Relations.{Relations}
 use Rattle.uses.specs.declared.spans.Direction.{Direction}
 use Rattle.uses.specs.declared.spans.Direction.TheVariants.{Up, Down, Works}
@@ -21,12 +21,15 @@ Proper s = (s.from < s.to) × (s.to ≤ 255)
 
 -- the direction of a number, where it is one
 abbrev pub direction_of : ℕ → Option Direction
-direction_of n = cond (n == 1) (Some Up) (cond (n == 2) (Some Down) (cond (n == 3) (Some Works) None))
+direction_of n =
+    if n == 1 then Some Up else if n == 2 then Some Down else if n == 3 then Some Works else None
 
--- the span in a direction from one field up to another, where there is a direction and a field between them
+-- the span in a direction from one field up to another, where there is a direction and some field
+-- between them
 abbrev pub span : Option Direction → ℕ → ℕ → Option Span
 span None from to = None
-span (Some d) from to = cond (nat_lt from to) (Some (record { direction = d; from = from; to = to })) None
+span (Some d) from to =
+    if nat_lt from to then Some (record { direction = d; from = from; to = to }) else None
 
 -- the span that a code stands for; a code that stands for none is unknown
 abbrev pub span_of : ℕ → Option Span
@@ -40,9 +43,10 @@ direction_name Works = codes "works"
 
 -- a span as it is printed: its direction, and the two ends of its fields with a dash between
 abbrev pub span_text : Span → List ℕ
-span_text s = direction_name s.direction ++ (codes " " ++ (decimal s.from ++ (codes "-" ++ decimal s.to)))
+span_text s =
+    direction_name s.direction ++ (codes " " ++ (decimal s.from ++ (codes "-" ++ decimal s.to)))
 
--- a span takes the fields from `from` up to but not including `to`
+-- a span takes the fields from its first, and the one at which it ends no more
 abbrev pub takes : Span → ℕ → Bool
 takes s field = nat_le s.from field && nat_lt field s.to
 
@@ -72,11 +76,11 @@ same d e = number d == number e
 abbrev pub travel_one_way : Direction → Direction → Bool
 travel_one_way d e = (same d Up && same e Up) || (same d Down && same e Down)
 
--- two spans conflict when they share a field and are not both up or both down
+-- spans conflict in a field that both take, unless they travel one way
 abbrev pub spans_conflict : Span → Span → Bool
 spans_conflict s t = share_a_field s t && not (travel_one_way s.direction t.direction)
 
--- a covers b when a has all fields of b, and a is works or has b's direction
+-- a span covers one of its own direction whose fields it has; works covers in every direction
 abbrev pub span_covers : Span → Span → Bool
 span_covers s t = has_all_fields_of s t && (same s.direction Works || same s.direction t.direction)
 

@@ -16,7 +16,7 @@ is_move a = a == 1
 abbrev pub known : ℕ → Bool
 known a = is_look a || is_move a
 
--- only look beside look is free of conflict; move covers both, look covers look
+-- two looks are compatible, and nothing else is; a move covers both uses, a look only a look
 abbrev pub two_uses : Relations
 two_uses = record {
   known = known;

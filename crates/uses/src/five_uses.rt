@@ -8,30 +8,30 @@ ghost use Rattle.std.proofs.Common.{rules};
 use crate::table::{UnknownUse, UseTable};
 use std::fmt;
 
-// A use of the table.
+/// A use of the table.
 #[derive(Clone, Copy, Debug, PartialEq, Eq)]
 pub enum Use {
-    // to use parts of a section for looking (intention shared)
+    /// To use parts of a section for looking (intention shared).
     IS = 0,
-    // to use parts of a section for moving (intention exclusive)
+    /// To use parts of a section for moving (intention exclusive).
     IX = 1,
-    // to look at the whole section (shared)
+    /// To look at the whole section (shared).
     S = 2,
-    // to look at the whole section and move on parts of it (shared with intention exclusive)
+    /// To look at the whole section and move on parts of it (shared with intention exclusive).
     SIX = 3,
-    // to move on the whole section (exclusive)
+    /// To move on the whole section (exclusive).
     X = 4,
 }
 
-// The code of intention shared.
+/// The code of intention shared.
 pub const IS: u32 = Use::IS as u32;
-// The code of intention exclusive.
+/// The code of intention exclusive.
 pub const IX: u32 = Use::IX as u32;
-// The code of shared.
+/// The code of shared.
 pub const S: u32 = Use::S as u32;
-// The code of shared with intention exclusive.
+/// The code of shared with intention exclusive.
 pub const SIX: u32 = Use::SIX as u32;
-// The code of exclusive.
+/// The code of exclusive.
 pub const X: u32 = Use::X as u32;
 
 // Row a, column b, both in the order of the codes: a and b conflict.
@@ -109,11 +109,10 @@ impl fmt::Display for Use {
     }
 }
 
-// The five uses of multiple granularity locking.
+/// The five uses of multiple granularity locking.
 #[derive(Clone, Copy, Debug, Default)]
 pub struct FiveUses;
 
-// Kept: alike in the three tables; the reason stands at `UseTable`.
 impl UseTable for FiveUses {
     ghost meaning = { λ _. five_uses };
 
@@ -132,8 +131,8 @@ impl UseTable for FiveUses {
     }
 }
 
-// Theorem: a use covers another exactly when every use that conflicts with the other conflicts
-// with it too.
+/// Theorem: a use covers another exactly when every use that conflicts with the other conflicts
+/// with it too.
 pub fn cover_is_dominance()
     ensures { CoverIsDominance }
 {}

@@ -2,13 +2,15 @@
 ghost use Rattle.std.specs.Prelude.{◌≡◌, ◌<◌, ◌||◌, Some};
 ghost use Rattle.std.specs.Result.{result_ok};
 ghost use Rattle.uses.specs.declared.spans.Direction.TheVariants.{Works};
-ghost use Rattle.uses.specs.Spans.{code_of, direction_of, span_of, direction_name, span_text, takes, share_a_field, has_all_fields_of, same, travel_one_way, spans_conflict, span_covers, spans, ExactCodes};
+ghost use Rattle.uses.specs.Spans.{code_of, direction_of, span_of, direction_name, span_text};
+ghost use Rattle.uses.specs.Spans.{takes, share_a_field, has_all_fields_of, same, travel_one_way};
+ghost use Rattle.uses.specs.Spans.{spans_conflict, span_covers, spans, ExactCodes};
 ghost use Rattle.uses.specs.SpanLaws.{spans_lawful};
 
 use crate::table::{UnknownUse, UseTable};
 use std::fmt;
 
-// Which way a span is travelled; `Works` is for maintenance, which stands alone.
+/// Which way a span is travelled; `Works` is for maintenance, which stands alone.
 #[derive(Clone, Copy, Debug, PartialEq, Eq)]
 pub enum Direction {
     Up = 1,
@@ -62,11 +64,13 @@ impl fmt::Display for Direction {
     }
 }
 
-// The fields from `from` up to but not including `to`, in one direction.
+/// A run of a section's fields, in one direction.
 #[derive(Clone, Copy, Debug, PartialEq, Eq)]
 pub struct Span {
     pub direction: Direction,
+    /// The first field.
     pub from: u8,
+    /// The first field behind the last one.
     pub to: u8,
 }
 
@@ -109,7 +113,7 @@ impl Span {
     }
 }
 
-// The use code of a span.
+/// The use code of a span.
 impl From<Span> for u32 {
     ghost from_gives = { λ span code. code ≡ code_of span };
 
@@ -118,7 +122,7 @@ impl From<Span> for u32 {
     }
 }
 
-// The span of a use code.
+/// The span of a use code; an error where the code is not that of a span.
 impl TryFrom<u32> for Span {
     type Error = UnknownUse;
 
@@ -151,11 +155,10 @@ impl fmt::Display for Span {
     }
 }
 
-// Uses by direction and fields: travel one way shares fields, works shares none.
+/// Uses by direction and fields: travel one way shares fields, works shares none.
 #[derive(Clone, Copy, Debug, Default)]
 pub struct Spans;
 
-// Kept: alike in the three tables; the reason stands at `UseTable`.
 impl UseTable for Spans {
     ghost meaning = { λ _. spans };
 
@@ -174,8 +177,8 @@ impl UseTable for Spans {
     }
 }
 
-// Theorem: `Span::try_from` knows exactly the codes of spans with at least one field, and reads
-// each as the span that it is the code of.
+/// Theorem: `Span::try_from` knows exactly the codes of spans with at least one field, and reads
+/// each as the span that it is the code of.
 #[tactic(auto, using(crate::proofs::SpanCodes::exact_codes))]
 pub fn codes_are_exact()
     ensures { ExactCodes }

@@ -6,7 +6,7 @@ ghost use Rattle.uses.specs.Checked.{checked};
 use std::error::Error;
 use std::fmt;
 
-// A code that the asked table does not know.
+/// A code that the asked table does not know.
 #[derive(Clone, Copy, Debug, PartialEq, Eq)]
 pub struct UnknownUse;
 
@@ -20,29 +20,26 @@ impl fmt::Display for UnknownUse {
 
 impl Error for UnknownUse {}
 
-// A use table (a lock mode compatibility matrix). A use (lock mode) is a 32-bit code.
-// Kept: the product has a use as a 32-bit code, so the questions are of codes and the codes of the
-// uses are constants; each table reads a code as a value of a type of its own.
-// Kept: the three tables answer by the same three lines. A generic helper would be passed the type,
-// both codes and the question, which is as long as the line that it would stand for.
+/// A use table (a lock mode compatibility matrix). A use (lock mode) is a 32-bit code, any of which
+/// may be asked about; each table reads a code as a value of a type of its own.
 pub trait UseTable {
     // What the table means. Every answer is read off it, so an answer depends on the table and
     // the codes alone.
     ghost meaning: { Self → Relations };
 
-    // Is the code one of the table's uses?
+    /// Is the code one of the table's uses?
     fn knows(&self, mode: u32) -> bool
         ensures { result ≡ (meaning self.now).known mode };
 
-    // Do the two uses conflict? No, if either is unknown.
+    /// Do the two uses conflict? No, if either is unknown.
     fn conflicts(&self, a: u32, b: u32) -> bool
         ensures { result ≡ (meaning self.now).conflict a b };
 
-    // Does use `a` cover use `b`? No, if either is unknown.
+    /// Does use `a` cover use `b`? No, if either is unknown.
     fn covers(&self, a: u32, b: u32) -> bool
         ensures { result ≡ (meaning self.now).cover a b };
 
-    // Refuses an unknown code.
+    /// Refuses an unknown code.
     fn check(&self, mode: u32) -> Result<(), UnknownUse>
         ensures { result ≡ checked (meaning self.now) mode }
     {

@@ -8,18 +8,18 @@ ghost use Rattle.std.proofs.Common.{rules};
 use crate::table::{UnknownUse, UseTable};
 use std::fmt;
 
-// A use of the table.
+/// A use of the table.
 #[derive(Clone, Copy, Debug, PartialEq, Eq)]
 pub enum Use {
-    // to look at a section (a shared lock)
+    /// To look at a section (a shared lock).
     Look = 0,
-    // to move on a section (an exclusive lock)
+    /// To move on a section (an exclusive lock).
     Move = 1,
 }
 
-// The code of a look.
+/// The code of a look.
 pub const LOOK: u32 = Use::Look as u32;
-// The code of a move.
+/// The code of a move.
 pub const MOVE: u32 = Use::Move as u32;
 
 impl Use {
@@ -73,11 +73,10 @@ impl fmt::Display for Use {
     }
 }
 
-// Looks stand beside each other; a move stands alone.
+/// Looks stand beside each other; a move stands alone.
 #[derive(Clone, Copy, Debug, Default)]
 pub struct TwoUses;
 
-// Kept: alike in the three tables; the reason stands at `UseTable`.
 impl UseTable for TwoUses {
     ghost meaning = { λ _. two_uses };
 
