@@ -2,8 +2,10 @@
 
 // A set of dispatch numbers in one machine word. The contracts speak of it by membership
 // (`contains`), and of its numbers in order as a list (`numbers_in`).
-ghost use Rattle.std.specs.Prelude.{◌≡◌, ℕ, ◌<◌, true, false, not, ◌&&◌, ◌||◌, ◌==◌, length, IsNone, IfSome, ◌↔◌};
-ghost use Rattle.dispatch_set.specs.DispatchSet.{contains, numbers_in, IsLeast};
+ghost use Rattle.std.specs.Prelude.{◌≡◌, ℕ, ◌<◌, true, false, not, ◌&&◌, ◌||◌, ◌==◌, length, IsNone, IfSome, ◌↔◌, Some};
+ghost use Rattle.std.specs.Fmt.{WritesOnOk};
+ghost use Rattle.std.specs.List.{flat_map};
+ghost use Rattle.dispatch_set.specs.DispatchSet.{contains, numbers_in, IsLeast, other_text};
 
 pub mod numbers;
 
@@ -98,10 +100,30 @@ impl DispatchSet {
     }
 }
 
+// Writes each number behind a comma and a space.
+fn write_others<W: fmt::Write>(numbers: Numbers, f: &mut fmt::Formatter<W>) -> fmt::Result
+    ensures { WritesOnOk W.write_str_gives f.old result (flat_map other_text numbers) f.new }
+{
+    for k in numbers {
+        write!(f, ", {k}")?;
+    }
+    Ok(())
+}
+
 /// The numbers in braces, in ascending order: `{1, 5, 63}`.
 impl fmt::Display for DispatchSet {
+    ghost use Rattle.dispatch_set.specs.DispatchSet.{set_text};
+
+    ghost output = { λ s. Some (set_text s) };
+
     fn fmt<W: fmt::Write>(&self, f: &mut fmt::Formatter<W>) -> fmt::Result {
-        f.debug_set().entries(self.iter()).finish()
+        let mut numbers = self.iter();
+        f.write_str("{")?;
+        if let Some(first) = numbers.next() {
+            write!(f, "{first}")?;
+        }
+        write_others(numbers, f)?;
+        f.write_str("}")
     }
 }
 
