@@ -9,8 +9,7 @@ use Rattle.model.specs.declared.call.Call.TheVariants.{Close, Withdraw, Acknowle
 use Rattle.model.specs.declared.report.Report.{Report}
 use Rattle.model.specs.declared.state.Condition.{Condition}
 use Rattle.model.specs.declared.state.Condition.TheVariants.{Free, Running, Waiting, Recalled}
-use Rattle.book.specs.Book.{CarriesOut, KeepsLaw}
-use Rattle.book.specs.Tables.{state}
+use Rattle.book.specs.Book.{CarriesOut, KeepsLaw, state_of, table_of}
 use Rattle.book.specs.declared.answer.Answer.{Answer}
 use Rattle.book.specs.declared.answer.Answer.TheVariants as answer
 use Rattle.book.specs.declared.answer.Refusal.{Refusal}
@@ -36,7 +35,7 @@ book_answer (Err refusal) = Err refusal
 
 -- how a dispatch stands in a book, by the meaning of its table
 abbrev pub condition_in : {T O : Type 0} {t : _} → (T → Relations) → Book T O t → ℕ → Condition
-condition_in uses b d = condition (uses b.policy.table) (state b.tables) d
+condition_in uses b d = condition (uses (table_of b)) (state_of b) d
 
 -- the call that a hand-in counts as
 abbrev pub hand_in_call : Condition → ℕ → Call

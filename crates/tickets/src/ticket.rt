@@ -3,7 +3,7 @@ ghost use Rattle.std.specs.Prelude.{◌≡◌, ◌<◌, IsTrue, Some};
 ghost use Rattle.model.specs.State.{is_free};
 ghost use Rattle.model.specs.declared.call.Call.TheVariants.{Open, Claim as ClaimCall};
 ghost use Rattle.model.specs.declared.limits.TheConstants.{DISPATCHES};
-ghost use Rattle.book.specs.Tables.{state};
+ghost use Rattle.book.specs.Book.{state_of};
 
 use book::answer::{Answer, Refusal};
 use book::book::Book;
@@ -86,7 +86,7 @@ impl Ticket {
         ensures counts { CountsAs T.meaning O.meaning book.old
             (hand_in_call (condition_in T.meaning book.old (dispatch_of self)) (dispatch_of self))
             (book_answer result) report.new book.new }
-        ensures freed { IsTrue (is_free (state book.new.tables) (dispatch_of self)) }
+        ensures freed { IsTrue (is_free (state_of book.new) (dispatch_of self)) }
     {
         let Ticket { dispatch } = self;
         let condition = book.condition(dispatch)?.condition;
