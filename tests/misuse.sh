@@ -21,11 +21,27 @@ errors() {
     { grep -o 'error\[[^]]*\]' || true; } | sort -u
 }
 
-# a copy of what cabinet is built on, with what is proved already, so that it is not proved again
+# needs_of CRATE: what it is built on, by crates.txt
+needs_of() {
+    sed -n "s/^$1: *//p" "$root/crates.txt"
+}
+
+# a copy of all that demo_tickets is built on, with what is proved already, so that it is not proved
+# again
 mkdir -p "$work/repo/crates"
 cd "$work/repo"
-needs=$(sed -n 's/^cabinet: //p' "$root/crates.txt")
-for crate in $needs; do
+needs=$(needs_of demo_tickets)
+copied=
+wanted=$needs
+while [ -n "$wanted" ]; do
+    crate=${wanted%% *}
+    wanted=${wanted#"$crate"}
+    wanted=${wanted# }
+    case " $copied " in *" $crate "*) continue ;; esac
+    copied="$copied $crate"
+    wanted="$wanted $(needs_of "$crate")"
+    wanted=${wanted# }
+    wanted=${wanted% }
     grep "^$crate:" "$root/crates.txt" >> crates.txt
     cp -R "$root/crates/$crate" crates
 done

@@ -1,6 +1,7 @@
 #![tactic(auto)]
 
-// Plays the story that the book was made for: two stations that each want the other's dock.
+// Plays the story that the book was made for, a deadlock of two stations that each want the other's
+// dock, and prints each call with its answer and its report.
 use book::book::Book;
 use model::call::Call;
 use model::report::Report;
@@ -9,7 +10,7 @@ use orders::single::Newest;
 use std::io;
 use std::iter::repeat_n;
 use uses::two_uses::{MOVE, TwoUses};
-use words::Told;
+use words::Sentence;
 
 mod words;
 
@@ -25,8 +26,8 @@ const DOCK_B: u32 = 11;
 
 const WEIGHT: u32 = 5;
 
-// What is told before the calls that lead to the stall.
-const BEFORE_THE_STALL: &str = "THE STALL AT THE DOCKS
+// What is printed before the calls that lead to the deadlock.
+const BEFORE_THE_DEADLOCK: &str = "THE STALL AT THE DOCKS
 
 Only one dispatch at a time may move on a dock.
 Each station takes its own dock, and then wants the other's.
@@ -35,14 +36,14 @@ and recalls the dispatch that was opened last: all its claims are taken out,
 and the other dispatch goes on.
 ";
 
-// What is told before the calls that come after it.
+// What is printed before the calls that come after it.
 const BEFORE_THE_END: &str = "
 The dispatch that went on is closed. The recalled one is opened again, and now
 nothing is in its way.
 ";
 
 // Each station takes its own dock and then wants the other's.
-const STALL: [Call; 6] = [
+const DEADLOCK: [Call; 6] = [
     Call::Open {
         dispatch: A,
         weight: WEIGHT,
@@ -94,7 +95,8 @@ const AFTER: [Call; 6] = [
     Call::Close { dispatch: B },
 ];
 
-// The recalled stand in the first places, and the woken in the next.
+// Prints whom a call recalled and whom it woke. The recalled stand in the first places of a report, and
+// the woken in the next.
 fn print_report(rt: &impl Print, report: &Report) -> io::Result<()> {
     let recalled = repeat_n("recalled:", report.recalled as usize);
     let woken = repeat_n("goes on: ", report.woken as usize);
@@ -108,14 +110,15 @@ fn print_report(rt: &impl Print, report: &Report) -> io::Result<()> {
 // Carries out one call, and prints it with its answer and its report.
 fn play(rt: &impl Print, book: &mut Book<TwoUses, Newest>, call: Call) -> io::Result<()> {
     let mut report = Report::empty();
-    let told = Told(call);
+    let sentence = Sentence(call);
     match book.carry_out(call, &mut report) {
-        Ok(answer) => println!(rt; "{told}: {answer}")?,
-        Err(refusal) => println!(rt; "{told}: {refusal}")?,
+        Ok(answer) => println!(rt; "{sentence}: {answer}")?,
+        Err(refusal) => println!(rt; "{sentence}: {refusal}")?,
     }
     print_report(rt, &report)
 }
 
+// Carries the calls out, one after another.
 fn play_all(rt: &impl Print, book: &mut Book<TwoUses, Newest>, calls: &[Call]) -> io::Result<()> {
     for call in calls {
         play(rt, book, *call)?;
@@ -125,8 +128,8 @@ fn play_all(rt: &impl Print, book: &mut Book<TwoUses, Newest>, calls: &[Call]) -
 
 fn main(rt: HostRuntime) -> io::Result<()> {
     let mut book = Book::new(TwoUses, Newest, Detection::Continuous);
-    println!(rt; "{BEFORE_THE_STALL}")?;
-    play_all(&rt, &mut book, &STALL)?;
+    println!(rt; "{BEFORE_THE_DEADLOCK}")?;
+    play_all(&rt, &mut book, &DEADLOCK)?;
     println!(rt; "{BEFORE_THE_END}")?;
     play_all(&rt, &mut book, &AFTER)
 }

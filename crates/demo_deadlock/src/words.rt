@@ -1,10 +1,10 @@
-// The words in which the story tells of a call.
+// The words in which a call is printed.
 use crate::{A, B};
 use model::call::Call;
 use std::fmt;
 use uses::two_uses::Use;
 
-// The station whose dispatch has the number.
+// The station whose dispatch has the number, by its name.
 #[derive(Clone, Copy)]
 struct Station(u32);
 
@@ -31,11 +31,11 @@ impl fmt::Display for Purpose {
     }
 }
 
-// A call, told by who makes it.
+// A call as a sentence: who makes it, and what it asks for.
 #[derive(Clone, Copy)]
-pub(crate) struct Told(pub(crate) Call);
+pub(crate) struct Sentence(pub(crate) Call);
 
-impl fmt::Display for Told {
+impl fmt::Display for Sentence {
     fn fmt<W: fmt::Write>(&self, f: &mut fmt::Formatter<W>) -> fmt::Result {
         match self.0 {
             Call::Open { dispatch, weight } => write!(

@@ -1,7 +1,8 @@
 #![tactic(auto)]
 
-// A station's own program, as it runs in a cabinet by the track. It opens by ticket, so it cannot
-// forget a dispatch on any way out: the language refuses a program that lets a ticket go.
+// A station's own program, as it runs in a cabinet by the track, played against a far station. It
+// opens by ticket, so it cannot forget a dispatch on any way out: the language refuses a program that
+// lets a ticket go.
 use book::answer::{Answer, Refusal};
 use book::book::Book;
 use model::call::Call;
@@ -48,7 +49,7 @@ const THEY_CROSS: [Call; 1] = [Call::Claim {
     mode: MOVE,
 }];
 
-// How it went.
+// How a trip went.
 #[derive(Clone, Copy)]
 struct Trip {
     // how many sections of the way were granted
@@ -96,7 +97,7 @@ fn travel(
     Ok(Trip { granted, ending })
 }
 
-// Tells how far the trip went, and how it ended.
+// Prints how far the trip went, and how it ended.
 fn print_trip(rt: &impl Print, trip: Trip) -> io::Result<()> {
     let Trip { granted, ending } = trip;
     for section in WAY.iter().take(granted) {
@@ -108,7 +109,7 @@ fn print_trip(rt: &impl Print, trip: Trip) -> io::Result<()> {
     println!(rt; "  hands the ticket in: {ending}")
 }
 
-// Travels, and then tells of it. Nothing is printed while the ticket is out: printing can fail.
+// Travels, and then prints how it went. Nothing is printed while the ticket is out: printing can fail.
 fn play(rt: &impl Print, book: &mut Book<TwoUses, Newest>, meanwhile: &[Call]) -> io::Result<()> {
     let travelled = travel(book, &WAY, meanwhile);
     println!(rt; "  opens dispatch {OURS} by ticket")?;

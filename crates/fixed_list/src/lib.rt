@@ -1,14 +1,17 @@
 #![tactic(auto)]
 
 // Lists in fixed memory. The contracts speak of a list by its entries, in order.
-ghost use Rattle.std.specs.Prelude.{◌≡◌, ◌<◌, ◌≤◌, Bool, [], ◌∷◌, ◌++◌, length, filter};
+ghost use Rattle.std.specs.Prelude.{◌≡◌, ◌<◌, ◌≤◌, ◌↔◌, IsTrue, Bool, [], ◌∷◌, ◌++◌, length, filter};
 ghost use Rattle.std.specs.Fn.{FnReturnsAt};
 
 use std::marker::Model;
 
-// At most N entries, in order of entering. The places behind the count are free.
-// Kept: an array with a count. `new` here takes any entry to fill with, where the library's
-// `ArrayVec::new` asks for a `Default`; and its `retain` promises a relation, this one a `filter`.
+/// At most N entries, in order of entering.
+///
+/// Nothing allocates, and N is part of the type, so that making a list cannot fail.
+// The places behind the count are free. An `ArrayVec` of the library differs in two ways that the
+// callers here need otherwise: its `new` asks for a `Default`, where this one takes any entry to
+// fill with, and its `retain` promises a relation, where this one promises a `filter`.
 #[derive(Drop)]
 pub struct FixedList<X, const N: usize> {
     items: [X; N],
@@ -29,7 +32,7 @@ impl<X, const N: usize> Model for FixedList<X, N> {
 }
 
 impl<X: Copy, const N: usize> FixedList<X, N> {
-    // No entry. The memory is filled with the given one.
+    /// A list with no entry. Its memory is filled with the given one.
     pub fn new(fill: X) -> Self
         ensures { result ≡ [] }
     {
@@ -39,7 +42,7 @@ impl<X: Copy, const N: usize> FixedList<X, N> {
         }
     }
 
-    // How many entries there are.
+    /// How many entries there are.
     pub fn len(&self) -> usize
         ensures value { result ≡ length self.now }
         ensures fits { result ≤ N }
@@ -47,7 +50,21 @@ impl<X: Copy, const N: usize> FixedList<X, N> {
         self.rows().len()
     }
 
-    // The entries, in order.
+    /// Is there no entry?
+    pub fn is_empty(&self) -> bool
+        ensures { IsTrue result ↔ (self.now ≡ []) }
+    {
+        self.rows().is_empty()
+    }
+
+    /// Is there no room for another entry?
+    pub fn is_full(&self) -> bool
+        ensures { IsTrue result ↔ (length self.now ≡ N) }
+    {
+        self.len() == N
+    }
+
+    /// The entries, in order.
     pub fn rows(&self) -> &[X]
         ensures value { result.now ≡ self.now }
         ensures fits { length result.now ≤ N }
@@ -55,7 +72,7 @@ impl<X: Copy, const N: usize> FixedList<X, N> {
         &self.items[..self.count]
     }
 
-    // Puts an entry behind the others.
+    /// Puts an entry behind the others.
     pub fn push(&mut self, x: X)
         requires { length self.old < N }
         ensures { self.new ≡ self.old ++ x ∷ [] }
@@ -64,9 +81,9 @@ impl<X: Copy, const N: usize> FixedList<X, N> {
         self.count += 1;
     }
 
-    // Keeps the entries that pass the test, in order and in place, and drops the others (a filter).
-    // Kept: the array is written while it is read, so no iterator can go over it, and both places
-    // are counted here.
+    /// Keeps the entries that pass the test, in order, and drops the others (a filter in place).
+    // The array is written while it is read, so no iterator can go over it: the places read and
+    // written are counted here.
     pub fn retain<F: Fn(&X) -> bool>(&mut self, test: F)
         requires { F.IsAlwaysCallable test }
         ensures { (passes : X → Bool) → ((x : X) (answer : Bool) → FnReturnsAt F.Fn test x answer → answer ≡ passes x) → self.new ≡ filter passes self.old }

@@ -1,4 +1,4 @@
-// Handing a ticket in, however its dispatch stands. A ticket cannot be let go, so each trial hands it
+// Handing a ticket in, however its dispatch stands. A ticket cannot be let go, so each test hands it
 // in before it looks at what was answered.
 use crate::trial::{Outcome, Trial};
 use book::answer::{Answer, Refusal};

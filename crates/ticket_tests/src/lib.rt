@@ -1,6 +1,6 @@
 #![tactic(auto)]
 
-// What a person would try on tickets.
+// Tests of tickets: what no contract says, and what a person would try first.
 #[cfg(test)]
 mod handing_in;
 #[cfg(test)]

@@ -1,4 +1,4 @@
-// A book on trial, with the report of its last call. Some of its dispatches are opened by ticket.
+// A book under test, with the report of its last call. Some of its dispatches are opened by ticket.
 use book::answer::{Answer, Refusal};
 use book::book::Book;
 use model::report::Report;
@@ -10,9 +10,8 @@ use uses::two_uses::TwoUses;
 // What a call is answered.
 pub(crate) type Outcome = Result<Answer, Refusal>;
 
-// A book, and the report that each of its calls fills.
-// Kept: beside the trial of the crate `trials`, which is part of its tests alone. To take it from
-// there this crate would have to stand on the console too, and the trial would have to be public.
+// A book, and the report that each of its calls fills. `book_tests` has one of its own, without
+// tickets: shared, it would have to be public, and this crate to stand on the console.
 #[derive(Drop)]
 pub(crate) struct Trial {
     pub(crate) book: Book<TwoUses, Newest>,

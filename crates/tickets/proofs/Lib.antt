@@ -1,2 +1,2 @@
-pub mod Passing
-pub mod Handing
+pub mod CarriedOutLemmas
+pub mod HandInLemmas

@@ -1,3 +1,1 @@
-pub mod Answered
-pub mod Endings
-pub mod HandIn
+pub mod Ticket

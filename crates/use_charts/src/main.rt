@@ -1,8 +1,9 @@
 #![tactic(auto)]
 
-// Prints the use tables' charts, to hang up beside a console.
+// Prints charts of the use tables (lock mode compatibility matrices): which uses conflict, and which
+// cover which.
 ghost use Rattle.std.specs.Prelude.{◌≡◌};
-ghost use Rattle.use_charts.specs.Asked.{asked};
+ghost use Rattle.use_charts.specs.Relation.{answer_of};
 
 use std::{fmt, io};
 use uses::spans::{Direction, Span, Spans};
@@ -45,10 +46,8 @@ impl fmt::Display for Relation {
 }
 
 // The table's answer for one place of a chart.
-// Kept: a match on the relation, which is printed too; a closure in its place would not say which
-// of the two a chart shows.
 fn ask<T: UseTable>(table: &T, relation: Relation, row: u32, column: u32) -> bool
-    ensures { result ≡ asked (T.meaning table.now) relation row column }
+    ensures { result ≡ answer_of (T.meaning table.now) relation row column }
 {
     match relation {
         Relation::Conflicts => table.conflicts(row, column),
@@ -101,7 +100,7 @@ impl<T: UseTable, U: Copy + fmt::Display + Into<u32>> fmt::Display for Chart<'_,
     }
 }
 
-// Both charts of a table, under a heading.
+// Prints both charts of a table, under a heading.
 fn print_table<T: UseTable, U: Copy + fmt::Display + Into<u32>>(
     rt: &HostRuntime,
     heading: &str,
@@ -120,7 +119,7 @@ fn print_table<T: UseTable, U: Copy + fmt::Display + Into<u32>>(
     Ok(())
 }
 
-// Whether the two spans conflict, as a question with its answer.
+// Prints the question whether the two spans conflict, with its answer.
 fn print_conflict(rt: &HostRuntime, a: Span, b: Span) -> io::Result<()> {
     let code = u32::from(a);
     let other = u32::from(b);
@@ -132,7 +131,7 @@ fn print_conflict(rt: &HostRuntime, a: Span, b: Span) -> io::Result<()> {
     println!(rt; "  Does {a} ({code}) conflict with {b} ({other})? {answer}")
 }
 
-// Whether the span is a use, as a question with its answer.
+// Prints the question whether the span is a use, with its answer.
 fn print_known(rt: &HostRuntime, span: Span) -> io::Result<()> {
     let code = u32::from(span);
     let answer = match Spans.check(code) {
@@ -142,7 +141,7 @@ fn print_known(rt: &HostRuntime, span: Span) -> io::Result<()> {
     println!(rt; "  Is {span} ({code}) a use? {answer}")
 }
 
-// Examples of spans.
+// Prints examples of spans.
 fn print_spans(rt: &HostRuntime) -> io::Result<()> {
     let up = Span {
         direction: Direction::Up,

@@ -4,8 +4,7 @@ use Rattle.model.specs.declared.call.Call.TheVariants as call
 use Rattle.model.proofs.Steps.{passed_opening}
 use Rattle.book.specs.Tables.{state}
 use Rattle.book.specs.declared.answer.Answer.TheVariants as answer
-use Rattle.book.proofs.RunLemmas.{keeps_law}
-use Rattle.tickets.proofs.Passing.{passed, done_ok}
+use Rattle.tickets.proofs.CarriedOutLemmas.{passed, done_ok, counts_as}
 use Rattle.tickets.proofs.ticket.Ticket.open.Goals as goal
 
 pub returns-in_err-open : goal.returns-in_err-open
@@ -15,8 +14,7 @@ returns-in_err-open g c =
     rw (p.1, p.2)
     (record {
       named = tt;
-      done = does;
-      law = keeps_law g.T.UseTable.meaning g.met.T.UseTable.lawful g.O.RecallOrder.meaning g.met.O.RecallOrder.lawful c.args.book.now c.open.new.self (call.Open c.args.dispatch c.args.weight) (Err c.in_err-open.field-0.0) c.open.new.report does;
+      counts = counts_as g.T.UseTable.meaning g.met.T.UseTable.lawful g.O.RecallOrder.meaning g.met.O.RecallOrder.lawful c.args.book.now c.open.new.self (call.Open c.args.dispatch c.args.weight) (Err c.in_err-open.field-0.0) c.open.new.report does;
     })
 
 pub invariant_of-result : goal.invariant_of-result
@@ -36,6 +34,5 @@ returns g c =
     let does = done_ok g.T.UseTable.meaning g.O.RecallOrder.meaning b c.open.new.self asked c.open.new.report c.in_ok-open.field-0 refl c.in_ok-open.ensures in
     record {
       named = refl;
-      done = does;
-      law = keeps_law g.T.UseTable.meaning g.met.T.UseTable.lawful g.O.RecallOrder.meaning g.met.O.RecallOrder.lawful b c.open.new.self asked (Ok answer.Ok) c.open.new.report does;
+      counts = counts_as g.T.UseTable.meaning g.met.T.UseTable.lawful g.O.RecallOrder.meaning g.met.O.RecallOrder.lawful b c.open.new.self asked (Ok answer.Ok) c.open.new.report does;
     }

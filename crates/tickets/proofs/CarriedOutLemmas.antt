@@ -1,6 +1,7 @@
 -- What the answer of a call says of its checks.
 use Rattle.std.proofs.Common.{◌≡◌, ℕ, Some, None, Ok, Err, Option, Result, sym, refl, ap, ◌∙◌}
-use Rattle.uses.specs.Relations.{Relations}
+use Rattle.uses.specs.Relations.{Relations, UseLaws}
+use Rattle.orders.specs.Laws.{OrderLaws}
 use Rattle.model.specs.State.{State}
 use Rattle.model.specs.Recalling.{Order}
 use Rattle.model.specs.Calls.{checks, refusal, accepted, effect_by, step, answer_ok, answer_refused}
@@ -13,6 +14,8 @@ use Rattle.book.specs.declared.answer.Answer.{Answer}
 use Rattle.book.specs.declared.answer.Answer.TheVariants as answer
 use Rattle.book.specs.declared.answer.Refusal.{Refusal}
 use Rattle.book.specs.declared.book.Book.{Book}
+use Rattle.book.proofs.RunLemmas.{keeps_law}
+use Rattle.tickets.specs.Ticket.{CountsAs}
 
 module _ (u : Relations) (o : Order) (s : State) (c : Call) (r : Report) (t : State) where
   -- the answer, by the verdict of the checks
@@ -63,3 +66,8 @@ done_ok uses orders before after c r a plain does = record {
   carried = answered_ok (uses before.policy.table) (orders before.policy.order) (state before.tables) c r (state after.tables) a plain does.carried;
   policy = does.policy;
 }
+
+module _ {T O : Type 0} {t : _} (uses : T → Relations) (laws : (x : T) → UseLaws (uses x)) (orders : O → Order) (lawful : (x : O) → OrderLaws (orders x)) (before after : Book T O t) where
+  -- what is carried out keeps the law over runs
+  pub counts_as : (c : Call) (a : Result Answer Refusal) (r : Report) → CarriesOut uses orders before c a r after → CountsAs uses orders before c a r after
+  counts_as c a r does = record { carried = does; law = keeps_law uses laws orders lawful before after c a r does }

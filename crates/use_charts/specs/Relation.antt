@@ -4,7 +4,7 @@ use Rattle.uses.specs.Relations.{Relations}
 use Rattle.use_charts.specs.declared.Relation.{Relation}
 use Rattle.use_charts.specs.declared.Relation.TheVariants.{Conflicts, Covers}
 
--- the chart of conflicts shows who conflicts, the chart of covers who covers
-abbrev pub asked : Relations → Relation → ℕ → ℕ → Bool
-asked m Conflicts a b = m.conflict a b
-asked m Covers a b = m.cover a b
+-- the answer at one place of a chart: who conflicts, or who covers
+abbrev pub answer_of : Relations → Relation → ℕ → ℕ → Bool
+answer_of m Conflicts a b = m.conflict a b
+answer_of m Covers a b = m.cover a b
