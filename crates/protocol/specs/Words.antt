@@ -34,10 +34,14 @@ abbrev pub named_lines : ℕ → List ℕ → List ReportEntry → List ℕ
 named_lines number word [] = []
 named_lines number word (x ∷ xs) = printed_line number (named_words word x) ++ named_lines number word xs
 
+-- the printed lines of the recalled, then those of the woken
+abbrev pub report_lines : ℕ → List ReportEntry → List ReportEntry → List ℕ
+report_lines number recalls wakes = named_lines number (codes "recall") recalls ++ named_lines number (codes "wake") wakes
+
 -- all that is printed for a line: the reply, then the recalled, then the woken
 unfoldable pub printed : ℕ → Reply → List ReportEntry → List ReportEntry → List ℕ
 printed number reply recalls wakes =
-    printed_line number (words reply) ++ (named_lines number (codes "recall") recalls ++ named_lines number (codes "wake") wakes)
+    printed_line number (words reply) ++ report_lines number recalls wakes
 
 -- a fault of the line layer is a line fault, any other is a refusal
 abbrev pub fault_reply : Layer → ℕ → ℕ → Reply

@@ -1,8 +1,6 @@
 // The fields of a line.
-ghost use Rattle.std.specs.Prelude.{◌≡◌, ◌+◌, ◌≤◌, length, MatchResult};
-ghost use Rattle.std.specs.Char.{is_ascii_digit};
-ghost use Rattle.std.specs.List.{prefix_len};
-ghost use Rattle.std.specs.Str.Parse.{AllDigits, digits_value};
+ghost use Rattle.std.specs.Prelude.{◌≡◌, ◌+◌, ◌≤◌, length, take, MatchResult};
+ghost use Rattle.std.specs.Str.Parse.{digits_value};
 ghost use Rattle.protocol.specs.Fields.{DigitFirst, most_digits, Counts, Takes, TakesField, NoField, WrongFields};
 ghost use Rattle.protocol.specs.Form.{Fields};
 ghost use Rattle.protocol.specs.declared.fault.Fault.TheVariants.{WrongForm};
@@ -31,11 +29,10 @@ impl Cursor<'_> {
     fn take_number(&mut self) -> Result<u32, Fault>
         ensures { MatchResult result (λ n. Takes self.old.rest.now self.old.place n self.new.rest.now self.new.place) (λ e. (e ≡ WrongForm self.old.place) × (DigitFirst self.old.rest.now → ⊥)) }
     {
-        let count = count_digits(self.rest);
+        let (count, number) = leading_number(self.rest);
         if count == 0 {
             return Err(self.wrong_form());
         }
-        let number = value_of(&self.rest[..count]);
         self.rest = &self.rest[count..];
         self.place += count as u8;
         Ok(number)
@@ -69,32 +66,22 @@ fn most_digits(text: &[u8]) -> usize
     }
 }
 
-// How many digits stand at the front of a text.
-fn leading_digits(text: &[u8]) -> usize
-    ensures { result ≡ prefix_len is_ascii_digit text.now }
+// The field at the front of a text: how many digits it has, and the number that they write. It has
+// none where no field begins.
+fn leading_number(text: &[u8]) -> (usize, u32)
+    ensures counted { Counts text.now result.0 }
+    ensures value { result.1 ≡ digits_value 10 (take result.0 text.now) }
 {
-    text.iter().take_while(|byte| byte.is_ascii_digit()).count()
-}
-
-// How many digits a field has at the front of a text: none where no field begins.
-fn count_digits(text: &[u8]) -> usize
-    ensures { Counts text.now result }
-{
-    leading_digits(text).min(most_digits(text))
-}
-
-// The number that digits write.
-// Kept: a loop, since a `fold` would have to know at each of its calls that the digits so far write
-// a small number, and its closure sees the number alone.
-fn value_of(digits: &[u8]) -> u32
-    requires { (AllDigits 10 digits.now) × (length digits.now ≤ 6) }
-    ensures { result ≡ digits_value 10 digits.now }
-{
+    let most = most_digits(text).min(text.len());
     let mut number = 0;
-    for digit in digits {
-        number = number * 10 + u32::from(*digit - b'0');
+    for count in 0..most {
+        let byte = text[count];
+        if !byte.is_ascii_digit() {
+            return (count, number);
+        }
+        number = number * 10 + u32::from(byte - b'0');
     }
-    number
+    (most, number)
 }
 
 // Reads N fields, which stand from the second place of the line to its end.

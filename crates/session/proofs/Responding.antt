@@ -19,20 +19,29 @@ use Rattle.protocol.specs.declared.fault.Fault.{Fault}
 use Rattle.protocol.specs.declared.fault.Fault.TheVariants.{TooManyLines, TooLong, NoLetter, WrongForm, Refused}
 use Rattle.session.specs.Transcript.{Gives, too_many, faulty, carried}
 use Rattle.model.proofs.Exact.{report_fits}
-use Rattle.session.specs.Responses.{Responded}
+use Rattle.session.specs.Responses.{Requested, is_last, is_read, Responded}
 
 -- fault 44
-pub last_responded : (u : Relations) (o : Order) (number : ℕ) (s : State) (line : List ℕ) (r : Report) → number ≡ 1000000 → r ≡ report_of [] [] → Responded u o number s line (Err TooManyLines) r s
+last_responded : (u : Relations) (o : Order) (number : ℕ) (s : State) (line : List ℕ) (r : Report) → number ≡ 1000000 → r ≡ report_of [] [] → Responded u o number s line (Err TooManyLines) r s
 last_responded u o number s line r last none = record { recalls = []; wakes = []; reported = none; fits = omega arith; gives = too_many last }
 
 -- another fault of the line
-pub fault_responded : (u : Relations) (o : Order) (number : ℕ) (s : State) (line : List ℕ) (f : Fault) (r : Report) → number < 1000000 → Reading line (Err f) → r ≡ report_of [] [] → Responded u o number s line (Err f) r s
+fault_responded : (u : Relations) (o : Order) (number : ℕ) (s : State) (line : List ℕ) (f : Fault) (r : Report) → number < 1000000 → Reading line (Err f) → r ≡ report_of [] [] → Responded u o number s line (Err f) r s
 fault_responded u o number s line _ r below (too_long many) none =
     record { recalls = []; wakes = []; reported = none; fits = omega arith; gives = faulty below TooLong (too_long many) }
 fault_responded u o number s line _ r below (no_letter few h) none =
     record { recalls = []; wakes = []; reported = none; fits = omega arith; gives = faulty below NoLetter (no_letter few h) }
 fault_responded u o number s line _ r below (wrong_form few h place wrong) none =
     record { recalls = []; wakes = []; reported = none; fits = omega arith; gives = faulty below (WrongForm place) (wrong_form few h place wrong) }
+
+-- a line that is no call
+pub request_responded : (u : Relations) (o : Order) (number : ℕ) (s : State) (line : List ℕ) (f : Fault) (r : Report) → Requested number line (Err f) → r ≡ report_of [] [] → Responded u o number s line (Err f) r s
+request_responded u o number s line _ r (is_last last) none = last_responded u o number s line r last none
+request_responded u o number s line f r (is_read below reading) none = fault_responded u o number s line f r below reading none
+
+-- a line that is a call
+pub requested_call : (number : ℕ) (line : List ℕ) (c : Call) → Requested number line (Ok c) → (number < 1000000) × Reading line (Ok c)
+requested_call number line c (is_read below reading) = (below, reading)
 
 -- the book's answer or refusal, as it passes up
 abbrev pub passed_up : Result Answer Refusal → Result Answer Fault

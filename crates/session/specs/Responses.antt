@@ -1,15 +1,23 @@
 -- What the console's inner functions promise. `u` is the meaning of the use table, `o` that of the recall order.
-use Rattle.std.specs.Prelude.{◌≡◌, ℕ, ◌+◌, ◌≤◌, List, length, Result}
+use Rattle.std.specs.Prelude.{◌≡◌, ℕ, ◌+◌, ◌<◌, ◌≤◌, List, length, Err, Result}
 use Rattle.uses.specs.Relations.{Relations}
 use Rattle.model.specs.State.{State}
 use Rattle.model.specs.Recalling.{Order}
 use Rattle.model.specs.Calls.{report_of}
+use Rattle.model.specs.declared.call.Call.{Call}
 use Rattle.model.specs.declared.report.ReportEntry.{ReportEntry}
 use Rattle.model.specs.declared.report.Report.{Report}
 use Rattle.book.specs.declared.answers.Answer.{Answer}
+use Rattle.protocol.specs.Reading.{Reading}
 use Rattle.protocol.specs.Words.{reply_to}
 use Rattle.protocol.specs.declared.fault.Fault.{Fault}
+use Rattle.protocol.specs.declared.fault.Fault.TheVariants.{TooManyLines}
 use Rattle.session.specs.Transcript.{Gives}
+
+-- what the line of a number is read as: the last one as a fault, any other as its bytes say
+pub data Requested (number : ℕ) (line : List ℕ) : Result Call Fault → Type 0 where
+  is_last : number ≡ 1000000 → Requested number line (Err TooManyLines)
+  is_read : number < 1000000 → {r : Result Call Fault} → Reading line r → Requested number line r
 
 -- the outcome, the whole report and the state left are what the line of the number gives
 pub record Responded (u : Relations) (o : Order) (number : ℕ) (s : State) (line : List ℕ) (outcome : Result Answer Fault) (r : Report) (t : State) : Type 0 where

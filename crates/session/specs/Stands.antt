@@ -24,10 +24,15 @@ pub record HasRead {T O : Type 0} {tm : _} (u : Relations) (o : Order) (detectio
 
 -- below, `u` and `o` give the meaning of each table and of each order; those of the console stand at its table and its order
 
--- the line that has begun was answered by the text, and the next begins
-abbrev pub AnswersLine : {T O : Type 0} {tm : _} → (T → Relations) → (O → Order) → Console T O tm → Console T O tm → List ℕ → Type 0
-AnswersLine u o before after text =
-    (detection : Detection) (ended : Lines) (rest printed : List ℕ) → HasAnswered (u before.book.policy.table) (o before.book.policy.order) detection ended rest printed before → HasAnswered (u before.book.policy.table) (o before.book.policy.order) detection (more ended rest) [] (printed ++ text) after
+-- a line that begins with these bytes, the first 33 of them, was answered by the text, where no line had begun
+abbrev pub AnswersLine : {T O : Type 0} {tm : _} → (T → Relations) → (O → Order) → Console T O tm → Console T O tm → List ℕ → List ℕ → Type 0
+AnswersLine u o before after first text =
+    (detection : Detection) (ended : Lines) (line printed : List ℕ) → take 33 first ≡ take 33 line → HasAnswered (u before.book.policy.table) (o before.book.policy.order) detection ended [] printed before → HasAnswered (u before.book.policy.table) (o before.book.policy.order) detection (more ended line) [] (printed ++ text) after
+
+-- the line that has begun ended with these bytes and was answered by the text, and the next begins
+abbrev pub EndsLine : {T O : Type 0} {tm : _} → (T → Relations) → (O → Order) → Console T O tm → Console T O tm → List ℕ → List ℕ → Type 0
+EndsLine u o before after bytes text =
+    (detection : Detection) (ended : Lines) (rest printed : List ℕ) → HasAnswered (u before.book.policy.table) (o before.book.policy.order) detection ended rest printed before → HasAnswered (u before.book.policy.table) (o before.book.policy.order) detection (more ended (rest ++ bytes)) [] (printed ++ text) after
 
 -- the console has read the bytes too, and printed the text for them
 abbrev pub Reads : {T O : Type 0} {tm : _} → (T → Relations) → (O → Order) → Console T O tm → Console T O tm → List ℕ → List ℕ → Type 0

@@ -2,8 +2,8 @@ use Rattle.std.proofs.Common.{◌≡◌, None, refl, ap, subst, sym, List, ℕ, 
 use Rattle.std.specs.Slice.Iter.{iter_rest}
 use Rattle.std.specs.Iterator.Adapters.{zip_first, zip_second}
 use Rattle.std.proofs.lemmas.Slice.Zip.{either_empty_from_Zip}
-use Rattle.text_buffer.specs.Text.{put_behind}
-use Rattle.text_buffer.proofs.Behind.{behind_fits}
+use Rattle.text_buffer.specs.TextBuffer.{put_behind}
+use Rattle.text_buffer.proofs.TextBufferLemmas.{behind_fits}
 use Rattle.protocol.specs.Words.{named_lines, names}
 use Rattle.protocol.proofs.NameLines.{lines_same, lines_step, lines_end}
 use Rattle.protocol.proofs.outcome.put_names.Goals as goal

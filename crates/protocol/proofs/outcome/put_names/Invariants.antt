@@ -1,7 +1,7 @@
 use Rattle.std.proofs.Common.{◌≡◌, ◌≤◌, length}
 use Rattle.std.specs.Slice.Iter.{iter_rest}
 use Rattle.std.specs.Iterator.Adapters.{zip_first, zip_second}
-use Rattle.text_buffer.specs.Text.{put_behind}
+use Rattle.text_buffer.specs.TextBuffer.{put_behind}
 use Rattle.protocol.specs.Words.{named_lines, names}
 use Rattle.protocol.proofs.outcome.put_names.Given as goal
 

@@ -1,7 +1,7 @@
 use Rattle.std.proofs.Common.{map, drop, vec_items}
 use Rattle.session.specs.Inputs.{all_bytes}
 use Rattle.session.proofs.Pieces.{ReadPart}
-use Rattle.session.proofs.whole.transcript.Given as goal
+use Rattle.session.proofs.serving.transcript.Given as goal
 
 abbrev pub invariant-loop-piece : goal.invariant-loop-piece
 invariant-loop-piece g l =

@@ -2,7 +2,8 @@
 use Rattle.std.proofs.Common.{◌≡◌, ℕ, zero, suc, ◌+◌, ◌-◌, ◌≤◌, List, [], ◌∷◌, ◌++◌, length, take, drop, min, replicate, sym, refl, ap, ◌∙◌, subst, append_assoc, arith, length-append, length-take}
 use Rattle.std.proofs.lemmas.List.{append-nil, take_all, take_min, take-append-le, drop-drop, drop-replicate}
 use Rattle.std.proofs.Math.Seq.{take-append-add}
-use Rattle.text_buffer.specs.Text.{put_behind}
+use Rattle.text_buffer.specs.declared.TheConstants.{ROOM}
+use Rattle.text_buffer.specs.TextBuffer.{put_behind}
 
 -- a cut before more is put behind does not show once all is cut
 pub take_cut : (n : ℕ) (xs ys : List ℕ) → take n (take n xs ++ ys) ≡ take n (xs ++ ys)
@@ -12,23 +13,28 @@ take_cut (suc n) (x ∷ xs) ys = ap (λ (t : List ℕ). x ∷ t) (take_cut n xs 
 
 -- bytes put behind bytes put behind
 pub behind_behind : (before xs ys : List ℕ) → put_behind (put_behind before xs) ys ≡ put_behind before (xs ++ ys)
-behind_behind before xs ys = take_cut 2048 (before ++ xs) ys ∙ ap (λ (t : List ℕ). take 2048 t) (append_assoc before xs ys)
+unfolding put_behind
+behind_behind before xs ys = take_cut ROOM (before ++ xs) ys ∙ ap (λ (t : List ℕ). take ROOM t) (append_assoc before xs ys)
 
 -- nothing is put behind what fits
-pub behind_none : (before : List ℕ) → length before ≤ 2048 → before ≡ put_behind before []
-behind_none before h = sym (ap (λ (t : List ℕ). take 2048 t) (append-nil before) ∙ take_all 2048 before h)
+pub behind_none : (before : List ℕ) → length before ≤ ROOM → before ≡ put_behind before []
+unfolding put_behind
+behind_none before h = sym (ap (λ (t : List ℕ). take ROOM t) (append-nil before) ∙ take_all ROOM before h)
 
 -- what is put behind fits
-pub behind_fits : (before xs : List ℕ) → length (put_behind before xs) ≤ 2048
-behind_fits before xs = omega (arith, length-take 2048 (before ++ xs))
+pub behind_fits : (before xs : List ℕ) → length (put_behind before xs) ≤ ROOM
+unfolding put_behind
+behind_fits before xs = omega (arith, length-take ROOM (before ++ xs))
 
 -- all that is put behind has room
-pub behind_room : (before xs : List ℕ) → length before + length xs ≤ 2048 → put_behind before xs ≡ before ++ xs
-behind_room before xs h = take_all 2048 (before ++ xs) (omega (arith, length-append before xs))
+pub behind_room : (before xs : List ℕ) → length before + length xs ≤ ROOM → put_behind before xs ≡ before ++ xs
+unfolding put_behind
+behind_room before xs h = take_all ROOM (before ++ xs) (omega (arith, length-append before xs))
 
 -- nothing that is put behind has room
-pub behind_full : (before xs : List ℕ) → length before ≡ 2048 → before ≡ put_behind before xs
-behind_full before xs e = sym (take-append-le 2048 before xs (omega arith) ∙ take_all 2048 before (omega arith))
+pub behind_full : (before xs : List ℕ) → length before ≡ ROOM → before ≡ put_behind before xs
+unfolding put_behind
+behind_full before xs e = sym (take-append-le ROOM before xs (omega arith) ∙ take_all ROOM before (omega arith))
 
 -- of what is put behind there stands as much as has room
 pub take_fitting : (room count : ℕ) (before xs : List ℕ) → length before ≡ count → count ≤ room → take room (before ++ xs) ≡ before ++ take (min (room - count) (length xs)) xs
@@ -38,11 +44,11 @@ take_fitting room count before xs long h =
     ∙ ap (λ (t : List ℕ). before ++ t) (sym (take_min (room - count) xs))
 
 -- the places after some that were blank are blank
-pub blank_after : (bytes : List ℕ) (count more : ℕ) → drop count bytes ≡ replicate (2048 - count) 0 → drop (count + more) bytes ≡ replicate (2048 - (count + more)) 0
+pub blank_after : (bytes : List ℕ) (count more : ℕ) → drop count bytes ≡ replicate (ROOM - count) 0 → drop (count + more) bytes ≡ replicate (ROOM - (count + more)) 0
 blank_after bytes count more blank =
     sym (drop-drop more count bytes)
     ∙ ap (λ (t : List ℕ). drop more t) blank
-    ∙ drop-replicate more (2048 - count) 0
+    ∙ drop-replicate more (ROOM - count) 0
     ∙ ap (λ (k : ℕ). replicate k 0) (omega arith)
 
 -- bytes put behind in two steps

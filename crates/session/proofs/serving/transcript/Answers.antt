@@ -1,7 +1,7 @@
 use Rattle.std.proofs.Common.{ℕ, ◌+◌, List, ◌++◌, map, drop, vec_items, ap, ◌∙◌, arith}
 use Rattle.session.specs.Inputs.{all_bytes}
 use Rattle.session.proofs.Pieces.{read_nothing, read_more, next_piece, no_piece, whole_input}
-use Rattle.session.proofs.whole.transcript.Goals as goal
+use Rattle.session.proofs.serving.transcript.Goals as goal
 
 pub loop-piece-init : goal.loop-piece-init
 loop-piece-init g c =

@@ -1,8 +1,8 @@
 use Rattle.std.proofs.Common.{◌+◌, ℕ, List, [], ◌∷◌, take, sym, ap, ◌∙◌, arith, length-take}
 use Rattle.std.proofs.lemmas.List.{take_more_set, drop-set-lt}
-use Rattle.text_buffer.proofs.Behind.{behind_room, behind_full, blank_after}
-use Rattle.text_buffer.specs.Text.{put_behind}
-use Rattle.text_buffer.proofs.place.Printed.put.Goals as goal
+use Rattle.text_buffer.proofs.TextBufferLemmas.{behind_room, behind_full, blank_after}
+use Rattle.text_buffer.specs.TextBuffer.{put_behind}
+use Rattle.text_buffer.proofs.TextBuffer.put.Goals as goal
 
 pub invariant_of-self : goal.invariant_of-self
 invariant_of-self c =

@@ -2,7 +2,7 @@ use Rattle.std.proofs.Common.{ℕ, Option, unwrap_or, length, ap, ◌∙◌, rul
 use Rattle.std.proofs.lemmas.Iterator.{YieldsList-from_slice}
 use Rattle.std.proofs.lemmas.Iterator.Search.{position_from_yields_List}
 use Rattle.session.proofs.Gathering.{is_end, first_or_length}
-use Rattle.session.proofs.reading.before_line_end.Goals as goal
+use Rattle.session.proofs.console.before_line_end.Goals as goal
 
 pub returns : goal.returns
 returns c =
