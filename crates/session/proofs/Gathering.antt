@@ -1,8 +1,9 @@
 -- What a console has gathered of a piece, before the line that has begun comes to its end.
-use Rattle.std.proofs.Common.{◌≡◌, ℕ, ◌+◌, ◌<◌, Bool, true, false, not, cond, ltb, ◌==◌, Some, None, unwrap_or, List, [], ◌∷◌, ◌++◌, length, get_or, take, sym, refl, ap, ◌∙◌, subst, append_assoc, append-nil, arith}
+use Rattle.std.proofs.Common.{◌≡◌, ℕ, ◌+◌, ◌<◌, Bool, true, false, not, cond, ltb, ◌==◌, Some, None, Option, unwrap_or, List, [], ◌∷◌, ◌++◌, length, get_or, take, sym, refl, ap, ◌∙◌, subst, append_assoc, append-nil, arith}
 use Rattle.std.specs.List.{position_or_len}
 use Rattle.std.proofs.lemmas.List.{length-take, take_more, nil_from_length}
-use Rattle.std.proofs.lemmas.List.Sums.{prefix_len-le-length, passes_at_first}
+use Rattle.std.proofs.lemmas.List.Sums.{prefix_len-le-length, passes_at_first, position_or_len_is}
+use Rattle.memchr.specs.Find.{IsFirstByte, is_byte}
 use Rattle.std.proofs.lemmas.Bool.Decides.{nat_tests}
 use Rattle.uses.specs.Relations.{Relations}
 use Rattle.model.specs.State.{State}
@@ -30,9 +31,18 @@ unbroken_before (b ∷ bs) = by_first (is_end b) refl (unbroken_before bs)
     by_first true e whole = rw e refl
     by_first false e whole = rw e (grind (arith, nat_tests, e, whole))
 
--- the first byte 10 as `position` finds it, or the length
-pub first_or_length : (piece : List ℕ) → unwrap_or (cond (ltb (position_or_len is_end piece) (length piece)) (Some (position_or_len is_end piece)) None) (length piece) ≡ position_or_len is_end piece
-first_or_length piece = let h = prefix_len-le-length (λ b. not (is_end b)) piece in grind (arith, nat_tests, h)
+-- a test that is not true is false
+not_true : (b : Bool) → ¬ (b ≡ true) → b ≡ false
+not_true true h = absurd (h refl)
+not_true false h = refl
+
+-- the first byte 10 as a search finds it, or the length
+pub first_end : (piece : List ℕ) (r : Option ℕ) → IsFirstByte (is_byte 10) piece r → unwrap_or r (length piece) ≡ position_or_len is_end piece
+first_end piece None none =
+    sym (position_or_len_is is_end piece (length piece) 0 (omega arith) (λ k inside. not_true _ (none k (omega arith) inside)) (λ past. absurd (let e : ⊥ = omega arith in e)))
+first_end piece (Some k) found =
+    let inside = found.0.high in
+    sym (position_or_len_is is_end piece k 0 (omega arith) (λ i less. not_true _ (found.0.before i (omega arith) less)) (λ _. found.1))
 
 -- the bytes that belong to the line are those before the first byte 10, and byte 10
 line_length_is : (piece : List ℕ) → line_length piece ≡ cond (ltb (position_or_len is_end piece) (length piece)) (position_or_len is_end piece + 1) (position_or_len is_end piece)

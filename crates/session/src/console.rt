@@ -7,6 +7,7 @@ ghost use Rattle.session.specs.Responses.{Requested};
 use book::answers::Answer;
 use book::book::Book;
 use fixed_list::FixedList;
+use memchr::memchr;
 use model::call::Call;
 use model::report::Report;
 use model::state::Detection;
@@ -42,10 +43,7 @@ pub struct Console<T: UseTable, O> {
 fn before_line_end(piece: &[u8]) -> usize
     ensures { result ≡ position_or_len (λ b. b == 10) piece.now }
 {
-    piece
-        .iter()
-        .position(|byte| *byte == b'\n')
-        .unwrap_or(piece.len())
+    memchr(b'\n', piece).unwrap_or(piece.len())
 }
 
 // Reads the line of a number as a call.
