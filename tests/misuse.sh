@@ -21,10 +21,10 @@ errors() {
     { grep -o 'error\[[^]]*\]' || true; } | sort -u
 }
 
-# a copy of what cabinet is built on, with what is proved already, so that it is not proved again
+# a copy of what demo_tickets is built on, with what is proved already, so that it is not proved again
 mkdir -p "$work/repo/crates"
 cd "$work/repo"
-needs=$(sed -n 's/^cabinet: //p' "$root/crates.txt")
+needs=$(sed -n 's/^demo_tickets: //p' "$root/crates.txt")
 for crate in $needs; do
     grep "^$crate:" "$root/crates.txt" >> crates.txt
     cp -R "$root/crates/$crate" crates

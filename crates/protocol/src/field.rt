@@ -85,6 +85,7 @@ fn leading_number(text: &[u8]) -> (usize, u32)
 }
 
 // Reads N fields, which stand from the second place of the line to its end.
+#[inline(always)]
 pub(crate) fn read_numbers<const N: usize>(text: &[u8]) -> Result<[u32; N], Fault>
     requires { length text.now ≤ 31 }
     ensures { MatchResult result (λ ns. (length ns ≡ N) × Fields ns text.now) (λ e. WrongFields N text.now e) }

@@ -10,6 +10,7 @@ use model::call::Call;
 const LONGEST: usize = 32;
 
 // Reads a line, without its byte 10, as a call.
+#[inline(always)]
 pub fn read_call(line: &[u8]) -> Result<Call, Fault>
     ensures { Reading line.now result }
 {
@@ -23,6 +24,7 @@ pub fn read_call(line: &[u8]) -> Result<Call, Fault>
 }
 
 // Reads the fields behind a letter. The letter chooses the call.
+#[inline(always)]
 fn read_fields(letter: char, fields: &[u8]) -> Result<Call, Fault>
     requires { length fields.now ≤ 31 }
     ensures { Reading (letter ∷ fields.now) result }

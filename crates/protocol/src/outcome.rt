@@ -31,6 +31,7 @@ fn put_fault(fault: Fault, out: &mut TextBuffer)
 }
 
 // Puts the printed line of a reply.
+#[inline(always)]
 fn put_reply(number: u32, outcome: Result<Answer, Fault>, out: &mut TextBuffer)
     ensures puts { out.new ≡ put_behind out.old (printed_line number (words (reply_to outcome))) }
     ensures short { length (printed_line number (words (reply_to outcome))) ≤ 28 }
@@ -99,6 +100,7 @@ fn put_report(number: u32, report: &Report, out: &mut TextBuffer)
 
 // Prints what a line gave, in the place of what was printed before: the reply, then the recalled,
 // then the woken, each after the number of the line.
+#[inline(always)]
 pub fn print_outcome(
     number: u32,
     outcome: Result<Answer, Fault>,

@@ -40,6 +40,7 @@ pub struct Console<T: UseTable, O> {
 }
 
 // How many bytes of a piece stand before its first byte 10, or how many it has if none is in it.
+#[inline(always)]
 fn before_line_end(piece: &[u8]) -> usize
     ensures { result ≡ position_or_len (λ b. b == 10) piece.now }
 {
@@ -47,6 +48,7 @@ fn before_line_end(piece: &[u8]) -> usize
 }
 
 // Reads the line of a number as a call.
+#[inline(always)]
 fn read_line(number: u32, line: &[u8]) -> Result<Call, Fault>
     requires { number ≤ 1000000 }
     ensures { Requested number line.now result }
@@ -58,6 +60,7 @@ fn read_line(number: u32, line: &[u8]) -> Result<Call, Fault>
 }
 
 // Reads the line of a number as a call. Where it is none, the report tells of nobody.
+#[inline(always)]
 fn request(number: u32, line: &[u8], report: &mut Report) -> Result<Call, Fault>
     requires { number ≤ 1000000 }
     ensures read { Requested number line.now result }

@@ -1,6 +1,6 @@
 -- Lemmas on bytes that are put behind others.
 use Rattle.std.proofs.Common.{◌≡◌, ℕ, zero, suc, ◌+◌, ◌-◌, ◌≤◌, List, [], ◌∷◌, ◌++◌, length, take, drop, min, replicate, sym, refl, ap, ◌∙◌, subst, append_assoc, arith, length-append, length-take}
-use Rattle.std.proofs.lemmas.List.{append-nil, take_all, take_min, take-append-le, drop-drop, drop-replicate}
+use Rattle.std.proofs.lemmas.List.{append-nil, take_all, take_min, take-append-le, drop-drop, drop-replicate, replicate-append-replicate}
 use Rattle.std.proofs.Math.Seq.{take-append-add}
 use Rattle.text_buffer.specs.declared.TheConstants.{ROOM}
 use Rattle.text_buffer.specs.TextBuffer.{put_behind}
@@ -55,3 +55,14 @@ blank_after bytes count more blank =
 pub behind_then : (before middle after xs ys zs : List ℕ) → middle ≡ put_behind before xs → after ≡ put_behind middle ys → xs ++ ys ≡ zs → after ≡ put_behind before zs
 behind_then before middle after xs ys zs first second both =
     second ∙ ap (λ (t : List ℕ). put_behind t ys) first ∙ behind_behind before xs ys ∙ ap (put_behind before) both
+
+-- once all that was printed is set to 0, all places are blank
+pub all_blank : (bytes zeros : List ℕ) (count n : ℕ) → count ≤ n → n ≤ ROOM → length bytes ≡ ROOM → drop count bytes ≡ replicate (ROOM - count) 0 → zeros ≡ replicate (length (take n bytes)) 0 → zeros ++ drop n bytes ≡ replicate ROOM 0
+all_blank bytes zeros count n more fits long blank is =
+    let size : length (take n bytes) ≡ n = omega (arith, length-take n bytes) in
+    let further : count + (n - count) ≡ n = omega arith in
+    let rest : drop n bytes ≡ replicate (ROOM - n) 0 = subst (λ (k : ℕ). drop k bytes ≡ replicate (ROOM - k) 0) further (blank_after bytes count (n - count) blank) in
+    let whole : n + (ROOM - n) ≡ ROOM = omega arith in
+    ap (λ (t : List ℕ). zeros ++ t) rest
+    ∙ (ap (λ (t : List ℕ). t ++ replicate (ROOM - n) 0) (is ∙ ap (λ (k : ℕ). replicate k 0) size)
+    ∙ (replicate-append-replicate n (ROOM - n) 0 ∙ ap (λ (k : ℕ). replicate k 0) whole))

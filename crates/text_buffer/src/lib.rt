@@ -10,6 +10,9 @@ use std::marker::Model;
 /// How many bytes there is room for.
 pub const ROOM: usize = 2048;
 
+// As many bytes as most texts have: for those a count that is known is cleared faster.
+const SHORT: usize = 64;
+
 /// Printed bytes: a count, and a place of 2048 bytes, 0 after the count.
 #[derive(Drop)]
 pub struct TextBuffer {
@@ -67,7 +70,11 @@ impl TextBuffer {
     pub fn clear(&mut self)
         ensures { self.new ≡ [] }
     {
-        self.bytes[..self.count].fill(0);
+        if self.count <= SHORT {
+            self.bytes[..SHORT].fill(0);
+        } else {
+            self.bytes[..self.count].fill(0);
+        }
         self.count = 0;
     }
 

@@ -1,13 +1,14 @@
-use Rattle.std.proofs.Common.{◌≡◌, ℕ, ◌+◌, ◌-◌, ◌++◌, length, take, drop, replicate, ap, ◌∙◌, arith, length-take}
-use Rattle.std.proofs.lemmas.List.{replicate-append-replicate}
-use Rattle.text_buffer.specs.declared.TheConstants.{ROOM}
+use Rattle.std.proofs.Common.{arith}
+use Rattle.text_buffer.proofs.TextBufferLemmas.{all_blank}
 use Rattle.text_buffer.proofs.TextBuffer.clear.Goals as goal
+use Rattle.text_buffer.proofs.TextBuffer.clear.Goals.{then-self-le-SHORT, else-self-le-SHORT}
 
 pub invariant_of-self : goal.invariant_of-self
 invariant_of-self c =
     let s = c.self.inside in
-    let zeros : c.fill.new.self ≡ replicate (length (take s.count s.bytes)) 0 = c.fill.ensures.after (λ y h. h) in
-    let count : length (take s.count s.bytes) ≡ s.count = omega (arith, length-take s.count s.bytes) in
-    let both : c.fill.new.self ++ drop s.count s.bytes ≡ replicate s.count 0 ++ replicate (ROOM - s.count) 0 = cc (c.self.invariant.1) in
-    let whole : s.count + (ROOM - s.count) ≡ ROOM = omega arith in
-    (omega arith, both ∙ replicate-append-replicate s.count (ROOM - s.count) 0 ∙ ap (λ (k : ℕ). replicate k 0) whole)
+    elim c.if-self-le-SHORT.branch [
+      | then-self-le-SHORT w ↦
+          (omega arith, rw w.self-inside-is (all_blank s.bytes w.fill.new.self s.count 64 w.if-self-le-SHORT.true (omega arith) c.self.told c.self.invariant.1 (w.fill.ensures.after (λ y h. h))))
+      | else-self-le-SHORT w ↦
+          (omega arith, rw w.self-inside-is (all_blank s.bytes w.fill-else-self-le-SHORT.new.self s.count s.count (omega arith) c.self.invariant.0 c.self.told c.self.invariant.1 (w.fill-else-self-le-SHORT.ensures.after (λ y h. h))))
+    ]
