@@ -3,7 +3,7 @@
 // `out`, and contracts would then speak of what is lent.
 ghost use Rattle.std.specs.Prelude.{◌≡◌, ◌≤◌, length, Err};
 ghost use Rattle.text_buffer.specs.TextBuffer.{put_behind};
-ghost use Rattle.protocol.specs.Words.{words, printed_line, named_words, named_lines, names, report_lines, printed, reply_to, named_recalled, named_woken};
+ghost use Rattle.protocol.specs.Words.{words, printed_line, entry_words, entry_lines, entries, report_lines, printed, reply_to, recalled_entries, woken_entries};
 
 use crate::fault::{Fault, Layer};
 use book::answers::Answer;
@@ -47,7 +47,7 @@ fn put_reply(number: u32, outcome: Result<Answer, Fault>, out: &mut TextBuffer)
 
 // Puts the printed line of one that a report names.
 fn put_name(number: u32, word: &[u8], named: ReportEntry, out: &mut TextBuffer)
-    ensures { out.new ≡ put_behind out.old (printed_line number (named_words word.now named)) }
+    ensures { out.new ≡ put_behind out.old (printed_line number (entry_words word.now named)) }
 {
     out.put_number(number);
     out.put(b' ');
@@ -63,7 +63,7 @@ fn put_name(number: u32, word: &[u8], named: ReportEntry, out: &mut TextBuffer)
 // Kept: two slices, as the report has two arrays.
 fn put_names(number: u32, word: &[u8], dispatches: &[u8], sections: &[u16], out: &mut TextBuffer)
     requires { length out.old ≤ 2048 }
-    ensures { out.new ≡ put_behind out.old (named_lines number word.now (names dispatches.now sections.now)) }
+    ensures { out.new ≡ put_behind out.old (entry_lines number word.now (entries dispatches.now sections.now)) }
 {
     for (dispatch, section) in dispatches.iter().zip(sections.iter()) {
         let named = ReportEntry {
@@ -77,8 +77,8 @@ fn put_names(number: u32, word: &[u8], dispatches: &[u8], sections: &[u16], out:
 // Puts a printed line for each that a report names: the recalled, then the woken.
 fn put_report(number: u32, report: &Report, out: &mut TextBuffer)
     requires { length out.old ≤ 2048 }
-    ensures puts { out.new ≡ put_behind out.old (report_lines number (named_recalled report.now) (named_woken report.now)) }
-    ensures short { length (report_lines number (named_recalled report.now) (named_woken report.now)) ≤ 1792 }
+    ensures puts { out.new ≡ put_behind out.old (report_lines number (recalled_entries report.now) (woken_entries report.now)) }
+    ensures short { length (report_lines number (recalled_entries report.now) (woken_entries report.now)) ≤ 1792 }
 {
     let recalled = (report.recalled as usize).min(64);
     let named = (recalled + report.woken as usize).min(64);
@@ -107,7 +107,7 @@ pub fn print_outcome(
     report: &Report,
     out: &mut TextBuffer,
 )
-    ensures { out.new ≡ printed number (reply_to outcome) (named_recalled report.now) (named_woken report.now) }
+    ensures { out.new ≡ printed number (reply_to outcome) (recalled_entries report.now) (woken_entries report.now) }
 {
     out.clear();
     put_reply(number, outcome, out);

@@ -11,8 +11,8 @@ use Rattle.model.specs.Recalling.{Order}
 use Rattle.model.specs.declared.state.Detection.{Detection}
 use Rattle.book.specs.Held.{state}
 use Rattle.book.specs.declared.book.Book.{Book}
-use Rattle.session.specs.Inputs.{Lines, more, Unbroken, Cut, with_rest, line_length}
-use Rattle.session.specs.Transcript.{Answered}
+use Rattle.session.specs.Inputs.{Lines, more, IsUnbroken, Cut, with_rest, line_length}
+use Rattle.session.specs.Transcript.{AnswersLines}
 use Rattle.session.specs.Stands.{HasAnswered, HasRead, AnswersLine, EndsLine, EndsLines, Finishes}
 use Rattle.session.specs.declared.console.Console.{Console}
 use Rattle.session.proofs.Cutting.{cut_more, cut_end}
@@ -23,11 +23,11 @@ abbrev pub is_end : ℕ → Bool
 is_end b = b == 10
 
 -- no byte 10 stands before the first
-pub unbroken_before : (piece : List ℕ) → Unbroken (take (position_or_len is_end piece) piece)
+pub unbroken_before : (piece : List ℕ) → IsUnbroken (take (position_or_len is_end piece) piece)
 unbroken_before [] = refl
 unbroken_before (b ∷ bs) = by_first (is_end b) refl (unbroken_before bs)
   where
-    by_first : (t : Bool) → is_end b ≡ t → Unbroken (take (position_or_len is_end bs) bs) → Unbroken (take (cond (not (is_end b)) (1 + position_or_len is_end bs) 0) (b ∷ bs))
+    by_first : (t : Bool) → is_end b ≡ t → IsUnbroken (take (position_or_len is_end bs) bs) → IsUnbroken (take (cond (not (is_end b)) (1 + position_or_len is_end bs) 0) (b ∷ bs))
     by_first true e whole = rw e refl
     by_first false e whole = rw e (grind (arith, nat_tests, e, whole))
 
@@ -66,7 +66,7 @@ pub record Gathered {T O : Type 0} {tm : _} (first now : Console T O tm) (piece 
   pub same_book : now.book ≡ first.book
   pub same_count : now.answered ≡ first.answered
   pub kept : now.line ≡ take 33 (first.line ++ take n piece)
-  pub unbroken : Unbroken (take n piece)
+  pub unbroken : IsUnbroken (take n piece)
 
 -- where the console stands that has gathered bytes
 stands_gathered : {T O : Type 0} {tm : _} (u : Relations) (o : Order) (detection : Detection) (ended : Lines) (rest text : List ℕ) (first now : Console T O tm) (piece : List ℕ) (n : ℕ) → Gathered first now piece n → HasAnswered u o detection ended rest text first → HasAnswered u o detection ended (rest ++ take n piece) text now
@@ -97,7 +97,7 @@ ends_whole m p text bytes now next none answers detection ended rest before h =
 pub ends_gathered : {T O : Type 0} {tm : _} (m : T → Relations) (p : O → Order) (text bytes line : List ℕ) (now mid next : Console T O tm) → line ≡ take 33 (now.line ++ bytes) → mid.book ≡ now.book → mid.answered ≡ now.answered → mid.line ≡ [] → AnswersLine m p mid next line text → EndsLine m p now next bytes text
 ends_gathered {T} {O} {tm} m p text bytes line now mid next is same counts anew answers detection ended rest before h =
     here detection ended (rest ++ bytes) before first (record {
-      answered = subst (λ (s : State). Answered (m now.book.policy.table) (p now.book.policy.order) detection ended before s) (sym (ap (λ (b : Book T O tm). state b.tables) same)) h.answered;
+      answered = subst (λ (s : State). AnswersLines (m now.book.policy.table) (p now.book.policy.order) detection ended before s) (sym (ap (λ (b : Book T O tm). state b.tables) same)) h.answered;
       counted = counts ∙ h.counted;
       kept = anew;
     })
@@ -109,7 +109,7 @@ ends_gathered {T} {O} {tm} m p text bytes line now mid next is same counts anew 
     here = subst (λ (k : Book T O tm). (detection : Detection) (ended : Lines) (whole before : List ℕ) → take 33 line ≡ take 33 whole → HasAnswered (m k.policy.table) (p k.policy.order) detection ended [] before mid → HasAnswered (m k.policy.table) (p k.policy.order) detection (more ended whole) [] (before ++ text) next) same answers
 
 -- the line has ended: its bytes were read, and its answer was printed
-pub line_read : {T O : Type 0} {tm : _} (m : T → Relations) (p : O → Order) (detection : Detection) (input before text : List ℕ) (first next : Console T O tm) (piece : List ℕ) (n : ℕ) → Unbroken (take n piece) → n < length piece → get_or piece n 0 ≡ 10 → EndsLine m p first next (take n piece) text → HasRead (m first.book.policy.table) (p first.book.policy.order) detection input before first → HasRead (m first.book.policy.table) (p first.book.policy.order) detection (input ++ take (n + 1) piece) (before ++ text) next
+pub line_read : {T O : Type 0} {tm : _} (m : T → Relations) (p : O → Order) (detection : Detection) (input before text : List ℕ) (first next : Console T O tm) (piece : List ℕ) (n : ℕ) → IsUnbroken (take n piece) → n < length piece → get_or piece n 0 ≡ 10 → EndsLine m p first next (take n piece) text → HasRead (m first.book.policy.table) (p first.book.policy.order) detection input before first → HasRead (m first.book.policy.table) (p first.book.policy.order) detection (input ++ take (n + 1) piece) (before ++ text) next
 line_read m p detection input before text first next piece n unbroken inside ten ends h = record {
   ended = more h.ended (h.rest ++ take n piece);
   rest = [];

@@ -11,11 +11,11 @@ use Rattle.model.specs.declared.state.Detection.{Detection}
 use Rattle.model.specs.declared.report.Report.{Report}
 use Rattle.book.specs.Held.{state}
 use Rattle.book.specs.declared.answers.Answer.{Answer}
-use Rattle.protocol.specs.Words.{Reply, reply_to, printed, named_recalled, named_woken}
+use Rattle.protocol.specs.Words.{Reply, reply_to, printed, recalled_entries, woken_entries}
 use Rattle.protocol.specs.declared.fault.Fault.{Fault}
 use Rattle.session.specs.Inputs.{Lines, more, count}
-use Rattle.session.specs.Transcript.{Gives, Turn, is_read, is_past, Answered, then_line}
-use Rattle.session.specs.Responses.{Responded}
+use Rattle.session.specs.Transcript.{Gives, Turn, is_read, is_past, AnswersLines, then_line}
+use Rattle.session.specs.Responses.{Responds}
 use Rattle.session.specs.Stands.{HasAnswered}
 use Rattle.session.specs.declared.console.Console.{Console}
 use Rattle.session.proofs.Kept.{gives_same}
@@ -49,19 +49,19 @@ line_answered u o detection ended first line text now before after number reply 
         (subst (λ (t : List ℕ). Turn u o number (state before.book.tables) line t (state after.book.tables)) (sym prints) (is_read given))
 
 -- a line was responded to, and the response was printed
-pub response_printed : {T O : Type 0} {tm : _} (u : Relations) (o : Order) (detection : Detection) (ended : Lines) (first line text now : List ℕ) (before after : Console T O tm) (number : ℕ) (outcome : Result Answer Fault) (r : Report) → take 33 first ≡ take 33 line → HasAnswered u o detection ended [] text before → before.answered < 1000000 → number ≡ suc before.answered → Responded u o number (state before.book.tables) first outcome r (state after.book.tables) → now ≡ printed number (reply_to outcome) (named_recalled r) (named_woken r) → after.answered ≡ number → after.line ≡ before.line → HasAnswered u o detection (more ended line) [] (text ++ now) after
+pub response_printed : {T O : Type 0} {tm : _} (u : Relations) (o : Order) (detection : Detection) (ended : Lines) (first line text now : List ℕ) (before after : Console T O tm) (number : ℕ) (outcome : Result Answer Fault) (r : Report) → take 33 first ≡ take 33 line → HasAnswered u o detection ended [] text before → before.answered < 1000000 → number ≡ suc before.answered → Responds u o number (state before.book.tables) first outcome r (state after.book.tables) → now ≡ printed number (reply_to outcome) (recalled_entries r) (woken_entries r) → after.answered ≡ number → after.line ≡ before.line → HasAnswered u o detection (more ended line) [] (text ++ now) after
 response_printed u o detection ended first line text now before after number outcome r same h below next done prints counts anew =
     line_answered u o detection ended first line text now before after number (reply_to outcome) done.recalls done.wakes same h below next done.gives
     (prints ∙ named) counts anew
   where
-    recalled : named_recalled r ≡ done.recalls
-    recalled = ap (λ (x : Report). named_recalled x) done.reported ∙ recalled_filled done.recalls done.wakes done.fits
+    recalled : recalled_entries r ≡ done.recalls
+    recalled = ap (λ (x : Report). recalled_entries x) done.reported ∙ recalled_filled done.recalls done.wakes done.fits
 
-    woken : named_woken r ≡ done.wakes
-    woken = ap (λ (x : Report). named_woken x) done.reported ∙ woken_filled done.recalls done.wakes done.fits
+    woken : woken_entries r ≡ done.wakes
+    woken = ap (λ (x : Report). woken_entries x) done.reported ∙ woken_filled done.recalls done.wakes done.fits
 
-    named : printed number (reply_to outcome) (named_recalled r) (named_woken r) ≡ printed number (reply_to outcome) done.recalls done.wakes
-    named = ap (λ (xs : List ReportEntry). printed number (reply_to outcome) xs (named_woken r)) recalled ∙ ap (λ (ys : List ReportEntry). printed number (reply_to outcome) done.recalls ys) woken
+    named : printed number (reply_to outcome) (recalled_entries r) (woken_entries r) ≡ printed number (reply_to outcome) done.recalls done.wakes
+    named = ap (λ (xs : List ReportEntry). printed number (reply_to outcome) xs (woken_entries r)) recalled ∙ ap (λ (ys : List ReportEntry). printed number (reply_to outcome) done.recalls ys) woken
 
 -- a line came after the last one that is read
 pub line_passed : {T O : Type 0} {tm : _} (u : Relations) (o : Order) (detection : Detection) (ended : Lines) (line text now : List ℕ) (c : Console T O tm) → HasAnswered u o detection ended [] text c → c.answered ≡ 1000000 → now ≡ [] → HasAnswered u o detection (more ended line) [] (text ++ now) c
@@ -88,7 +88,7 @@ kept_more xs rest bytes is = ap (λ (ys : List ℕ). take 33 (ys ++ bytes)) is �
 -- bytes of a line were kept
 pub bytes_kept : {T O : Type 0} {tm : _} (u : Relations) (o : Order) (detection : Detection) (ended : Lines) (rest text bytes : List ℕ) (before after : Console T O tm) → HasAnswered u o detection ended rest text before → state after.book.tables ≡ state before.book.tables → after.answered ≡ before.answered → after.line ≡ take 33 (before.line ++ bytes) → HasAnswered u o detection ended (rest ++ bytes) text after
 bytes_kept u o detection ended rest text bytes before after h same counts keeps = record {
-  answered = subst (λ (s : State). Answered u o detection ended text s) (sym same) h.answered;
+  answered = subst (λ (s : State). AnswersLines u o detection ended text s) (sym same) h.answered;
   counted = counts ∙ h.counted;
   kept = keeps ∙ kept_more before.line rest bytes h.kept;
 }

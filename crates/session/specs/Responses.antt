@@ -15,12 +15,12 @@ use Rattle.protocol.specs.declared.fault.Fault.TheVariants.{TooManyLines}
 use Rattle.session.specs.Transcript.{Gives}
 
 -- what the line of a number is read as: the last one as a fault, any other as its bytes say
-pub data Requested (number : ℕ) (line : List ℕ) : Result Call Fault → Type 0 where
-  is_last : number ≡ 1000000 → Requested number line (Err TooManyLines)
-  is_read : number < 1000000 → {r : Result Call Fault} → Reading line r → Requested number line r
+pub data IsRequest (number : ℕ) (line : List ℕ) : Result Call Fault → Type 0 where
+  is_last : number ≡ 1000000 → IsRequest number line (Err TooManyLines)
+  is_read : number < 1000000 → {r : Result Call Fault} → Reading line r → IsRequest number line r
 
 -- the outcome, the whole report and the state left are what the line of the number gives
-pub record Responded (u : Relations) (o : Order) (number : ℕ) (s : State) (line : List ℕ) (outcome : Result Answer Fault) (r : Report) (t : State) : Type 0 where
+pub record Responds (u : Relations) (o : Order) (number : ℕ) (s : State) (line : List ℕ) (outcome : Result Answer Fault) (r : Report) (t : State) : Type 0 where
   pub recalls : List ReportEntry
   pub wakes : List ReportEntry
   pub reported : r ≡ report_of recalls wakes

@@ -6,12 +6,12 @@ use Rattle.model.specs.Recalling.{Order}
 use Rattle.model.specs.declared.state.Detection.{Detection}
 use Rattle.book.specs.Held.{state}
 use Rattle.session.specs.Inputs.{Lines, more, count, Cut, with_rest}
-use Rattle.session.specs.Transcript.{Answered, Transcript}
+use Rattle.session.specs.Transcript.{AnswersLines, Transcript}
 use Rattle.session.specs.declared.console.Console.{Console}
 
 -- the console has answered the ended lines by the text, counts them up to 1000000, and keeps the first 33 bytes of the line that has begun
 pub record HasAnswered {T O : Type 0} {tm : _} (u : Relations) (o : Order) (detection : Detection) (ended : Lines) (rest text : List ℕ) (c : Console T O tm) : Type 0 where
-  pub answered : Answered u o detection ended text (state c.book.tables)
+  pub answered : AnswersLines u o detection ended text (state c.book.tables)
   pub counted : c.answered ≡ cond (nat_lt (count ended) 1000000) (count ended) 1000000
   pub kept : c.line ≡ take 33 rest
 

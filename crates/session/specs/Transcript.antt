@@ -28,9 +28,9 @@ pub data Turn (u : Relations) (o : Order) (number : ℕ) (s : State) (line : Lis
   is_past : 1000000 < number → Turn u o number s line [] s
 
 -- what lines print in all, from a new book on, and the state left
-pub data Answered (u : Relations) (o : Order) (detection : Detection) : Lines → List ℕ → State → Type 0 where
-  nothing : Answered u o detection none [] (new detection)
-  then_line : {ls : Lines} {before now : List ℕ} {s t : State} {line : List ℕ} → Answered u o detection ls before s → Turn u o (suc (count ls)) s line now t → Answered u o detection (more ls line) (before ++ now) t
+pub data AnswersLines (u : Relations) (o : Order) (detection : Detection) : Lines → List ℕ → State → Type 0 where
+  nothing : AnswersLines u o detection none [] (new detection)
+  then_line : {ls : Lines} {before now : List ℕ} {s t : State} {line : List ℕ} → AnswersLines u o detection ls before s → Turn u o (suc (count ls)) s line now t → AnswersLines u o detection (more ls line) (before ++ now) t
 
 -- the text is the transcript of the input
 pub record Transcript (u : Relations) (o : Order) (detection : Detection) (input text : List ℕ) : Type 0 where
@@ -38,4 +38,4 @@ pub record Transcript (u : Relations) (o : Order) (detection : Detection) (input
   pub rest : List ℕ
   pub left : State
   pub cut : Cut input ended rest
-  pub answered : Answered u o detection (with_rest ended rest) text left
+  pub answered : AnswersLines u o detection (with_rest ended rest) text left

@@ -2,7 +2,7 @@
 ghost use Rattle.std.specs.Prelude.{◌≡◌, ◌≤◌, [], ◌==◌, OnErr};
 ghost use Rattle.std.specs.List.{position_or_len};
 ghost use Rattle.model.specs.Calls.{report_of};
-ghost use Rattle.session.specs.Responses.{Requested};
+ghost use Rattle.session.specs.Responses.{IsRequest};
 
 use book::answers::Answer;
 use book::book::Book;
@@ -51,7 +51,7 @@ fn before_line_end(piece: &[u8]) -> usize
 #[inline(always)]
 fn read_line(number: u32, line: &[u8]) -> Result<Call, Fault>
     requires { number ≤ 1000000 }
-    ensures { Requested number line.now result }
+    ensures { IsRequest number line.now result }
 {
     if number == LAST_LINE {
         return Err(Fault::TooManyLines);
@@ -63,7 +63,7 @@ fn read_line(number: u32, line: &[u8]) -> Result<Call, Fault>
 #[inline(always)]
 fn request(number: u32, line: &[u8], report: &mut Report) -> Result<Call, Fault>
     requires { number ≤ 1000000 }
-    ensures read { Requested number line.now result }
+    ensures read { IsRequest number line.now result }
     ensures told { OnErr result (report.new ≡ report_of [] []) }
 {
     let request = read_line(number, line);
@@ -78,7 +78,7 @@ impl<T: UseTable, O: RecallOrder> Console<T, O> {
     ghost use Rattle.model.specs.declared.state.Detection.{Detection as Detections};
     ghost use Rattle.book.specs.Held.{state};
     ghost use Rattle.session.specs.Inputs.{Lines, count, line_length};
-    ghost use Rattle.session.specs.Responses.{Responded};
+    ghost use Rattle.session.specs.Responses.{Responds};
     ghost use Rattle.session.specs.Stands.{HasAnswered, HasRead, AnswersLine, EndsLine, Reads, LosesAnswer, EndsLines, Finishes};
 
     /// A console over a new book. Nothing has been read or printed.
@@ -104,7 +104,7 @@ impl<T: UseTable, O: RecallOrder> Console<T, O> {
 
     // Reads a line, whose number is that of the answers, as a call, and carries it out.
     fn respond(&mut self, line: &[u8]) -> Result<Answer, Fault>
-        ensures done { Responded (T.meaning self.old.book.policy.table) (O.meaning self.old.book.policy.order) self.old.answered (state self.old.book.tables) line.now result self.new.report (state self.new.book.tables) }
+        ensures done { Responds (T.meaning self.old.book.policy.table) (O.meaning self.old.book.policy.order) self.old.answered (state self.old.book.tables) line.now result self.new.report (state self.new.book.tables) }
         ensures policy { self.new.book.policy ≡ self.old.book.policy }
         ensures answered { self.new.answered ≡ self.old.answered }
         ensures line { self.new.line ≡ self.old.line }

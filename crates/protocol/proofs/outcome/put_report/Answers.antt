@@ -1,7 +1,7 @@
 use Rattle.std.proofs.Common.{◌≡◌, ℕ, length, get_or, codes, ap, ◌∙◌, arith, rules, w8, w16, Fits}
 use Rattle.text_buffer.specs.TextBuffer.{put_behind}
 use Rattle.text_buffer.proofs.TextBufferLemmas.{behind_fits, behind_behind}
-use Rattle.protocol.specs.Words.{named_lines, named_recalled, named_woken}
+use Rattle.protocol.specs.Words.{entry_lines, recalled_entries, woken_entries}
 use Rattle.protocol.proofs.NameLines.{lines_same, recalled_places, woken_places, named_short}
 use Rattle.protocol.proofs.outcome.put_report.Goals as goal
 
@@ -16,8 +16,8 @@ returns c =
     let end = c.min-named.result in
     let long : length r.dispatches ≡ 64 = omega arith in
     let long' : length r.sections ≡ 64 = omega arith in
-    let recalls = named_lines n (codes "recall") (named_recalled r) in
-    let wakes = named_lines n (codes "wake") (named_woken r) in
+    let recalls = entry_lines n (codes "recall") (recalled_entries r) in
+    let wakes = entry_lines n (codes "wake") (woken_entries r) in
     let recalled : c.put_names.new.out ≡ put_behind c.args.out.now recalls =
     c.put_names.ensures
     ∙ ap (put_behind c.args.out.now)
