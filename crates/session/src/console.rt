@@ -3,7 +3,9 @@ ghost use Rattle.std.specs.Prelude.{◌≡◌, ◌≤◌, [], ◌==◌, OnErr};
 ghost use Rattle.std.specs.List.{position_or_len};
 ghost use Rattle.model.specs.Calls.{report_of};
 ghost use Rattle.session.specs.Responses.{IsRequest};
+ghost use Rattle.session.specs.declared.limits.TheConstants.{LAST_LINE};
 
+use crate::limits::{KEPT, LAST_LINE};
 use book::answers::Answer;
 use book::book::Book;
 use fixed_list::FixedList;
@@ -20,12 +22,6 @@ use std::mem;
 use text_buffer::TextBuffer;
 use uses::table::UseTable;
 
-/// The number of the line at which reading stops.
-pub const LAST_LINE: u32 = 1000000;
-
-/// How many bytes of a line are kept: enough to see that it is too long.
-pub const KEPT: usize = 33;
-
 /// A console (a session over one input): a book, and the line that has begun.
 #[derive(Drop)]
 pub struct Console<T: UseTable, O> {
@@ -33,10 +29,10 @@ pub struct Console<T: UseTable, O> {
     // how many lines were answered
     pub(crate) answered: u32,
     // the first bytes of the line that has begun
-    pub(crate) line: FixedList<u8, 33>,
+    pub(crate) line: FixedList<u8, KEPT>,
     // what the last call told
     pub(crate) report: Report,
-    ghost few: { answered ≤ 1000000 },
+    ghost few: { answered ≤ LAST_LINE },
 }
 
 // How many bytes of a piece stand before its first byte 10, or how many it has if none is in it.
@@ -50,7 +46,7 @@ fn before_line_end(piece: &[u8]) -> usize
 // Reads the line of a number as a call.
 #[inline(always)]
 fn read_line(number: u32, line: &[u8]) -> Result<Call, Fault>
-    requires { number ≤ 1000000 }
+    requires { number ≤ LAST_LINE }
     ensures { IsRequest number line.now result }
 {
     if number == LAST_LINE {
@@ -62,7 +58,7 @@ fn read_line(number: u32, line: &[u8]) -> Result<Call, Fault>
 // Reads the line of a number as a call. Where it is none, the report tells of nobody.
 #[inline(always)]
 fn request(number: u32, line: &[u8], report: &mut Report) -> Result<Call, Fault>
-    requires { number ≤ 1000000 }
+    requires { number ≤ LAST_LINE }
     ensures read { IsRequest number line.now result }
     ensures told { OnErr result (report.new ≡ report_of [] []) }
 {
@@ -97,7 +93,7 @@ impl<T: UseTable, O: RecallOrder> Console<T, O> {
 
     /// Has line 1000000 been answered? Then nothing more is printed, whatever comes.
     pub fn has_stopped(&self) -> bool
-        ensures { (detection : Detections) (ended : Lines) (rest text : List ℕ) → HasAnswered (T.meaning self.now.book.policy.table) (O.meaning self.now.book.policy.order) detection ended rest text self.now → result ≡ nat_le 1000000 (count ended) }
+        ensures { (detection : Detections) (ended : Lines) (rest text : List ℕ) → HasAnswered (T.meaning self.now.book.policy.table) (O.meaning self.now.book.policy.order) detection ended rest text self.now → result ≡ nat_le LAST_LINE (count ended) }
     {
         self.answered == LAST_LINE
     }
@@ -130,7 +126,7 @@ impl<T: UseTable, O: RecallOrder> Console<T, O> {
 
     // Keeps bytes of the line that has begun, as far as they are among its first 33.
     fn gather(&mut self, bytes: &[u8])
-        ensures kept { self.new.line ≡ take 33 (self.old.line ++ bytes.now) }
+        ensures kept { self.new.line ≡ take KEPT (self.old.line ++ bytes.now) }
         ensures book { self.new.book ≡ self.old.book }
         ensures answered { self.new.answered ≡ self.old.answered }
     {

@@ -2,5 +2,6 @@
 
 // A console over a book: an input in pieces, and its answers in printed bytes.
 pub mod console;
+pub mod limits;
 pub mod serving;
 pub mod theorems;
