@@ -1,5 +1,6 @@
--- The lines of an input. Byte 10 ends a line; the last may lack it, and nothing after the last byte 10 is no line.
-use Rattle.std.specs.Prelude.{◌≡◌, ℕ, suc, false, cond, List, [], ◌∷◌, ◌++◌, ◌==◌}
+-- The lines of an input. Byte 10 ends a line; the last may lack it, and nothing after the last
+-- byte 10 is no line.
+use Rattle.std.specs.Prelude.{◌≡◌, ℕ, suc, false, if◌then◌else◌, List, [], ◌∷◌, ◌++◌, ◌==◌}
 use Rattle.model.specs.Search.{member}
 -- the bytes of pieces, one behind another
 pub use Rattle.std.specs.List.{concat as all_bytes}
@@ -42,4 +43,4 @@ with_rest ls (b ∷ bs) = more ls (b ∷ bs)
 -- how many bytes of a piece belong to the line that has begun: those up to byte 10, and byte 10
 abbrev pub line_length : List ℕ → ℕ
 line_length [] = 0
-line_length (b ∷ bs) = cond (b == 10) 1 (suc (line_length bs))
+line_length (b ∷ bs) = if b == 10 then 1 else suc (line_length bs)

@@ -70,12 +70,11 @@ fn request(number: u32, line: &[u8], report: &mut Report) -> Result<Call, Fault>
 }
 
 impl<T: UseTable, O: RecallOrder> Console<T, O> {
-    ghost use Rattle.std.specs.Prelude.{◌≡◌, ℕ, List, [], ◌++◌, take, OnOk, OnErr, nat_le};
-    ghost use Rattle.model.specs.declared.state.Detection.{Detection as Detections};
+    ghost use Rattle.std.specs.Prelude.{◌≡◌, [], ◌++◌, take, OnOk, OnErr};
     ghost use Rattle.book.specs.Held.{state};
-    ghost use Rattle.session.specs.Inputs.{Lines, count, line_length};
+    ghost use Rattle.session.specs.Inputs.{line_length};
     ghost use Rattle.session.specs.Responses.{Responds};
-    ghost use Rattle.session.specs.Stands.{HasAnswered, HasRead, AnswersLine, EndsLine, Reads, LosesAnswer, EndsLines, Finishes};
+    ghost use Rattle.session.specs.Stands.{HasRead, AnswersLine, EndsLine, Reads, ReadsAll, LosesAnswer, EndsLines, Finishes, TellsStop};
 
     /// A console over a new book. Nothing has been read or printed.
     pub fn new(table: T, order: O, detection: Detection) -> Console<T, O>
@@ -93,14 +92,16 @@ impl<T: UseTable, O: RecallOrder> Console<T, O> {
 
     /// Has line 1000000 been answered? Then nothing more is printed, whatever comes.
     pub fn has_stopped(&self) -> bool
-        ensures { (detection : Detections) (ended : Lines) (rest text : List ℕ) → HasAnswered (T.meaning self.now.book.policy.table) (O.meaning self.now.book.policy.order) detection ended rest text self.now → result ≡ nat_le LAST_LINE (count ended) }
+        ensures { TellsStop T.meaning O.meaning self.now result }
     {
         self.answered == LAST_LINE
     }
 
     // Reads a line, whose number is that of the answers, as a call, and carries it out.
     fn respond(&mut self, line: &[u8]) -> Result<Answer, Fault>
-        ensures done { Responds (T.meaning self.old.book.policy.table) (O.meaning self.old.book.policy.order) self.old.answered (state self.old.book.tables) line.now result self.new.report (state self.new.book.tables) }
+        ensures done { Responds (T.meaning self.old.book.policy.table)
+            (O.meaning self.old.book.policy.order) self.old.answered (state self.old.book.tables)
+            line.now result self.new.report (state self.new.book.tables) }
         ensures policy { self.new.book.policy ≡ self.old.book.policy }
         ensures answered { self.new.answered ≡ self.old.answered }
         ensures line { self.new.line ≡ self.old.line }
@@ -153,7 +154,8 @@ impl<T: UseTable, O: RecallOrder> Console<T, O> {
     /// answers the line if it has come to its end. Says how many bytes it took.
     pub fn take(&mut self, piece: &[u8], printed: &mut TextBuffer) -> usize
         ensures taken { result ≡ line_length piece.now }
-        ensures read { Reads T.meaning O.meaning self.old self.new (take result piece.now) printed.new }
+        ensures read {
+            Reads T.meaning O.meaning self.old self.new (take result piece.now) printed.new }
         ensures policy { self.new.book.policy ≡ self.old.book.policy }
     {
         let count = before_line_end(piece);
@@ -182,8 +184,10 @@ impl<T: UseTable, O: RecallOrder> Console<T, O> {
     /// Takes a whole piece, and puts all that is printed behind what is in `out`. Where there is no
     /// memory for an answer, that answer is lost, and what stands behind its line is not taken.
     pub fn take_all(&mut self, piece: &[u8], out: &mut Vec<u8>) -> Result<(), AllocError>
-        ensures read { OnOk result ((text : List ℕ) × (out.new.items ≡ out.old.items ++ text) × Reads T.meaning O.meaning self.old self.new piece.now text) }
-        ensures failed { OnErr result (LosesAnswer T.meaning O.meaning self.old self.new piece.now out.old.items out.new.items) }
+        ensures read { OnOk result
+            (ReadsAll T.meaning O.meaning self.old self.new piece.now out.old.items out.new.items) }
+        ensures failed { OnErr result
+            (LosesAnswer T.meaning O.meaning self.old self.new piece.now out.old.items out.new.items) }
         ensures policy { self.new.book.policy ≡ self.old.book.policy }
     {
         let mut printed = TextBuffer::new();

@@ -22,7 +22,8 @@ pub fn transcript<T: UseTable + Drop, O: RecallOrder + Drop>(
     pieces: &[&[u8]],
     alloc: Global,
 ) -> Result<Vec<u8>, AllocError>
-    ensures { IfOk result (λ v. Transcript (T.meaning table) (O.meaning order) detection (all_bytes (map (λ p. p.now) pieces.now)) v.items) }
+    ensures { IfOk result (λ v. Transcript (T.meaning table) (O.meaning order) detection
+        (all_bytes (map (λ p. p.now) pieces.now)) v.items) }
 {
     let mut console = Console::new(table, order, detection);
     let mut out = Vec::new(alloc);
@@ -38,9 +39,10 @@ pub fn transcript<T: UseTable + Drop, O: RecallOrder + Drop>(
 // How many bytes are read at once.
 const BLOCK: usize = 65536;
 
-// Answers the lines that a reader gives on a writer, until the input ends or reading stops.
-// What a read gives is answered at once, and written at once: so a line that is typed is answered
-// when it ends, and a file is read and answered in blocks.
+/// Answers the lines that a reader gives on a writer, until the input ends or reading stops.
+/// What a read gives is answered at once, and written at once: so a line that is typed is answered
+/// when it ends, and a file is read and answered in blocks.
+/// An error of the reader or the writer, or for lack of memory, ends it.
 // No input takes as many reads as the loop has turns; if one did, it would end in an error.
 pub fn serve_between<R: Read, W: Write, T: UseTable, O: RecallOrder>(
     input: &mut R,
@@ -48,7 +50,8 @@ pub fn serve_between<R: Read, W: Write, T: UseTable, O: RecallOrder>(
     console: &mut Console<T, O>,
     alloc: Global,
 ) -> io::Result<()>
-    ensures { OnOk result (Serves T.meaning O.meaning console.old (R.remaining input.old) (W.contents output.old) (W.contents output.new)) }
+    ensures { OnOk result (Serves T.meaning O.meaning console.old
+        (R.remaining input.old) (W.contents output.old) (W.contents output.new)) }
 {
     let mut block = [0; BLOCK];
     let mut answers = Vec::new(alloc);
@@ -69,7 +72,7 @@ pub fn serve_between<R: Read, W: Write, T: UseTable, O: RecallOrder>(
     Err(io::Error::from(io::ErrorKind::TimedOut))
 }
 
-// Answers the lines of standard input on standard output.
+/// Answers the lines of standard input on standard output.
 pub fn serve<T: UseTable, O: RecallOrder>(
     rt: &HostRuntime,
     console: &mut Console<T, O>,
