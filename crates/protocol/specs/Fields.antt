@@ -1,5 +1,5 @@
 -- The fields of a line, as the reader takes them one by one.
-use Rattle.std.specs.Prelude.{◌≡◌, ℕ, suc, ◌+◌, ◌<◌, ◌≤◌, if◌then◌else◌, List, ◌++◌, length, take, drop, codes, ◌==◌, slice_index}
+use Rattle.std.specs.Prelude.{◌≡◌, ℕ, suc, ◌+◌, ◌<◌, ◌≤◌, if◌then◌else◌, List, ◌++◌, length, take, drop, codes, ◌==◌, slice_index, MatchResult, Result}
 use Rattle.std.specs.Str.Parse.{AllDigits}
 use Rattle.std.specs.Char.{digit_value}
 use Rattle.protocol.specs.Form.{Field, Fields}
@@ -25,7 +25,7 @@ pub record Counts (text : List ℕ) (count : ℕ) : Type 0 where
 abbrev pub IsComplete : List ℕ → List ℕ → Type 0
 IsComplete digits rest = DigitFirst rest → length digits ≡ most_digits digits
 
--- the text begins with the digits of a field, which write the number; the rest stands at another place
+-- the text begins with the digits of a field, which write the number; the rest stands at a place
 pub record Takes (text : List ℕ) (place number : ℕ) (rest : List ℕ) (after : ℕ) : Type 0 where
   pub digits : List ℕ
   pub splits : text ≡ digits ++ rest
@@ -54,7 +54,28 @@ NoField text place fault =
     (before : ℕ) × (fault ≡ WrongForm (place + before))
     × ((count : ℕ) → IsStuck (suc count) before text)
 
--- the text is not so many fields: the fault is where it goes wrong, in a line where it stands at place 2
+-- the text is not so many fields: the fault is where it goes wrong, if it stands at place 2
 abbrev pub WrongFields : ℕ → List ℕ → Fault → Type 0
 WrongFields count text fault =
     (before : ℕ) × (fault ≡ WrongForm (2 + before)) × IsStuck count before text
+
+-- a number was taken from the front of the text, where the fault is wrong form if no digit stands
+abbrev pub TakesNumber : List ℕ → ℕ → Result ℕ Fault → List ℕ → ℕ → Type 0
+TakesNumber text place r rest after =
+    MatchResult r
+    (λ n. Takes text place n rest after)
+    (λ e. (e ≡ WrongForm place) × ¬ DigitFirst text)
+
+-- a field was taken from the front of the text, or none begins there
+abbrev pub TakesOneField : List ℕ → ℕ → Result ℕ Fault → List ℕ → ℕ → Type 0
+TakesOneField text place r rest after =
+    MatchResult r
+    (λ n. TakesField text place n rest after)
+    (λ e. NoField text place e)
+
+-- the text was read as so many fields, or is none of them
+abbrev pub ReadsFields : ℕ → List ℕ → Result (List ℕ) Fault → Type 0
+ReadsFields count text r =
+    MatchResult r
+    (λ ns. (length ns ≡ count) × Fields ns text)
+    (λ e. WrongFields count text e)

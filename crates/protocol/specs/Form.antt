@@ -43,7 +43,8 @@ IsCorrect line c = (text : List ℕ) × (line ≡ letter c ++ text) × Fields (n
 
 -- some correct line has the same first places as this one; the end counts as a place
 abbrev pub GoesOn : ℕ → List ℕ → Type 0
-GoesOn places line = (c : Call) × (other : List ℕ) × IsCorrect other c × (take places line ≡ take places other)
+GoesOn places line =
+    (c : Call) × (other : List ℕ) × IsCorrect other c × (take places line ≡ take places other)
 
 -- the place is the first, from 1, where no correct line goes on
 abbrev pub FirstWrong : ℕ → List ℕ → Type 0

@@ -1,5 +1,5 @@
--- What a line is read as: a call, or a fault. Faults 41, 42 and 43 are tested in this order; 44 comes
--- before them, in the transcript.
+-- What a line is read as: a call, or a fault. Faults 41, 42 and 43 are tested in this order; 44
+-- comes before them, in the transcript.
 use Rattle.std.specs.Prelude.{◌≡◌, ℕ, ◌<◌, ◌≤◌, List, ◌++◌, length, Ok, Err, Result}
 use Rattle.model.specs.declared.call.Call.{Call}
 use Rattle.protocol.specs.declared.form.TheConstants.{LONGEST_LINE}

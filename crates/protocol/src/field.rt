@@ -1,8 +1,7 @@
 // The fields of a line.
-ghost use Rattle.std.specs.Prelude.{◌≡◌, ◌+◌, ◌≤◌, length, take, MatchResult};
+ghost use Rattle.std.specs.Prelude.{◌≡◌, ◌+◌, ◌≤◌, length, take};
 ghost use Rattle.std.specs.Str.Parse.{digits_value};
-ghost use Rattle.protocol.specs.Fields.{DigitFirst, most_digits, Counts, Takes, TakesField, NoField, WrongFields};
-ghost use Rattle.protocol.specs.Form.{Fields};
+ghost use Rattle.protocol.specs.Fields.{most_digits, Counts, TakesNumber, TakesOneField, ReadsFields};
 ghost use Rattle.protocol.specs.declared.fault.Fault.TheVariants.{WrongForm};
 
 use crate::fault::Fault;
@@ -27,7 +26,8 @@ impl Cursor<'_> {
 
     // Takes the digits of a field from the front of the rest.
     fn take_number(&mut self) -> Result<u32, Fault>
-        ensures { MatchResult result (λ n. Takes self.old.rest.now self.old.place n self.new.rest.now self.new.place) (λ e. (e ≡ WrongForm self.old.place) × (DigitFirst self.old.rest.now → ⊥)) }
+        ensures { TakesNumber self.old.rest.now self.old.place result
+            self.new.rest.now self.new.place }
     {
         let (count, number) = leading_number(self.rest);
         if count == 0 {
@@ -40,7 +40,8 @@ impl Cursor<'_> {
 
     // Takes a field from the front of the rest: a space, and digits.
     fn take_field(&mut self) -> Result<u32, Fault>
-        ensures { MatchResult result (λ n. TakesField self.old.rest.now self.old.place n self.new.rest.now self.new.place) (λ e. NoField self.old.rest.now self.old.place e) }
+        ensures { TakesOneField self.old.rest.now self.old.place result
+            self.new.rest.now self.new.place }
     {
         match self.rest {
             [b' ', rest @ ..] => {
@@ -54,7 +55,7 @@ impl Cursor<'_> {
 }
 
 // The most digits of a field.
-const MOST: usize = 6;
+const MOST_DIGITS: usize = 6;
 
 // The most digits that a field has at the front of a text: a leading 0 stands alone.
 fn most_digits(text: &[u8]) -> usize
@@ -62,7 +63,7 @@ fn most_digits(text: &[u8]) -> usize
 {
     match text {
         [b'0', ..] => 1,
-        _ => MOST,
+        _ => MOST_DIGITS,
     }
 }
 
@@ -88,7 +89,7 @@ fn leading_number(text: &[u8]) -> (usize, u32)
 #[inline(always)]
 pub(crate) fn read_numbers<const N: usize>(text: &[u8]) -> Result<[u32; N], Fault>
     requires { length text.now ≤ 31 }
-    ensures { MatchResult result (λ ns. (length ns ≡ N) × Fields ns text.now) (λ e. WrongFields N text.now e) }
+    ensures { ReadsFields N text.now result }
 {
     let mut cursor = Cursor {
         rest: text,

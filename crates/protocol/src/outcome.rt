@@ -1,17 +1,17 @@
 // The printed bytes of an outcome.
-// Kept: the number of a line and `out` are passed side by side, since a struct of both would borrow
-// `out`, and contracts would then speak of what is lent.
 ghost use Rattle.std.specs.Prelude.{◌≡◌, ◌≤◌, length, Err};
 ghost use Rattle.text_buffer.specs.TextBuffer.{put_behind};
+ghost use Rattle.text_buffer.specs.declared.TheConstants.{ROOM};
 ghost use Rattle.protocol.specs.Words.{words, printed_line, entry_words, entry_lines, entries, report_lines, printed, reply_to, recalled_entries, woken_entries};
 
 use crate::fault::{Fault, Layer};
 use book::answers::Answer;
+use model::limits::DISPATCHES;
 use model::report::{Report, ReportEntry};
 use text_buffer::TextBuffer;
 
 // Puts the words of a fault: a fault of the line says its place, any other is a refusal.
-// Kept: beside the `Display` of `Fault`, for the reason that stands at `TextBuffer::put_number`.
+// `write!` would not do: its contract says nothing of what was written where room lacks.
 fn put_fault(fault: Fault, out: &mut TextBuffer)
     ensures puts { out.new ≡ put_behind out.old (words (reply_to (Err fault))) }
     ensures short { length (words (reply_to (Err fault))) ≤ 16 }
@@ -60,10 +60,10 @@ fn put_name(number: u32, word: &[u8], named: ReportEntry, out: &mut TextBuffer)
 }
 
 // Puts a printed line for each of the dispatches, with its section beside it.
-// Kept: two slices, as the report has two arrays.
 fn put_names(number: u32, word: &[u8], dispatches: &[u8], sections: &[u16], out: &mut TextBuffer)
-    requires { length out.old ≤ 2048 }
-    ensures { out.new ≡ put_behind out.old (entry_lines number word.now (entries dispatches.now sections.now)) }
+    requires { length out.old ≤ ROOM }
+    ensures { out.new ≡ put_behind out.old
+        (entry_lines number word.now (entries dispatches.now sections.now)) }
 {
     for (dispatch, section) in dispatches.iter().zip(sections.iter()) {
         let named = ReportEntry {
@@ -76,12 +76,14 @@ fn put_names(number: u32, word: &[u8], dispatches: &[u8], sections: &[u16], out:
 
 // Puts a printed line for each that a report names: the recalled, then the woken.
 fn put_report(number: u32, report: &Report, out: &mut TextBuffer)
-    requires { length out.old ≤ 2048 }
-    ensures puts { out.new ≡ put_behind out.old (report_lines number (recalled_entries report.now) (woken_entries report.now)) }
-    ensures short { length (report_lines number (recalled_entries report.now) (woken_entries report.now)) ≤ 1792 }
+    requires { length out.old ≤ ROOM }
+    ensures puts { out.new ≡ put_behind out.old
+        (report_lines number (recalled_entries report.now) (woken_entries report.now)) }
+    ensures short {
+        length (report_lines number (recalled_entries report.now) (woken_entries report.now)) ≤ 1792 }
 {
-    let recalled = (report.recalled as usize).min(64);
-    let named = (recalled + report.woken as usize).min(64);
+    let recalled = (report.recalled as usize).min(DISPATCHES);
+    let named = (recalled + report.woken as usize).min(DISPATCHES);
     put_names(
         number,
         b"recall",
@@ -98,8 +100,8 @@ fn put_report(number: u32, report: &Report, out: &mut TextBuffer)
     );
 }
 
-// Prints what a line gave, in the place of what was printed before: the reply, then the recalled,
-// then the woken, each after the number of the line.
+/// Prints what a line gave, in the place of what was printed before: the reply, then the recalled,
+/// then the woken, each after the number of the line. All of it fits.
 #[inline(always)]
 pub fn print_outcome(
     number: u32,
@@ -107,7 +109,8 @@ pub fn print_outcome(
     report: &Report,
     out: &mut TextBuffer,
 )
-    ensures { out.new ≡ printed number (reply_to outcome) (recalled_entries report.now) (woken_entries report.now) }
+    ensures { out.new ≡ printed number (reply_to outcome)
+        (recalled_entries report.now) (woken_entries report.now) }
 {
     out.clear();
     put_reply(number, outcome, out);
