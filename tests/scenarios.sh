@@ -1,29 +1,23 @@
 #!/bin/sh
-# Runs replay on each scenario and compares what it prints with what the rules say it has to print.
+# Runs the console on each scenario and compares what it prints with what the rules say it has to print.
 # A scenario is a folder of tests/scenarios: args (as on the command line), input, expected.
 # Status 0: all is as expected. With scenario names as arguments, only those are run.
 
 root=$(cd "$(dirname "$0")/.." && pwd) || exit 2
-program=$root/crates/replay/out/replay
+program=$root/crates/console/out/console
 passed=0
 failed=0
-
-# The folders of replay and of the crates that it is built on.
-crates_of_replay() {
-    sed -n 's/^replay://p' "$root/crates.txt" | tr ' ' '\n' | sed '/^$/d; s,^,crates/,'
-    echo crates/replay
-}
 
 # Is the program missing, or older than something that it is made of?
 is_stale() {
     test -x "$program" || return 0
-    newer=$(cd "$root" && find $(crates_of_replay) -name out -prune -o \( -name '*.rt' -o -name '*.antt' \) -newer "$program" -print | sed 1q)
+    newer=$(cd "$root" && find crates.txt crates -name out -prune -o \( -name '*.rt' -o -name '*.antt' \) -newer "$program" -print | sed 1q)
     test -n "$newer"
 }
 
 build() {
-    echo 'scenarios: replay is missing or older than its sources: rt run' >&2
-    (cd "$root/crates/replay" && rt run -- continuous two newest) </dev/null >"$scratch/check" 2>&1 && touch "$program" && return
+    echo 'scenarios: the console is missing or older than its sources: rt run' >&2
+    (cd "$root/crates/console" && rt run) </dev/null >"$scratch/check" 2>&1 && touch "$program" && return
     tail -n 20 "$scratch/check" >&2
     exit 2
 }
@@ -55,7 +49,7 @@ run_scenario() {
     test $truth = yes || sed 's/^/        /' "$scratch/diff" "$scratch/said"
 }
 
-# refuses WORDS ARGUMENT..: with these arguments replay prints nothing, says WORDS on standard error,
+# refuses WORDS ARGUMENT..: with these arguments the console prints nothing, says WORDS on standard error,
 # and ends with status 1.
 refuses() {
     words=$1
@@ -64,7 +58,7 @@ refuses() {
     status=$?
     truth=no
     if test $status -eq 1 && ! test -s "$scratch/printed" &&
-        grep -q -F -e "$words" "$scratch/said" && grep -q '^usage: replay' "$scratch/said"; then
+        grep -q -F -e "$words" "$scratch/said" && grep -q '^usage: console' "$scratch/said"; then
         truth=yes
     fi
     note "wrong arguments: $*" $truth
@@ -72,9 +66,9 @@ refuses() {
 }
 
 check_wrong_arguments() {
-    refuses 'three arguments'
-    refuses 'three arguments' continuous two
-    refuses 'three arguments' continuous two newest newest
+    refuses 'no arguments or three' continuous
+    refuses 'no arguments or three' continuous two
+    refuses 'no arguments or three' continuous two newest newest
     refuses 'DETECTION is continuous or periodic' sometimes two newest
     refuses 'DETECTION is continuous or periodic' Continuous two newest
     refuses 'DETECTION is continuous or periodic' '' two newest

@@ -5,7 +5,7 @@ use session::console::Console;
 use std::alloc::{AllocError, Global};
 use std::process::Abort;
 use std::test::Fail;
-use text_buffer::place::Printed;
+use text_buffer::TextBuffer;
 use uses::two_uses::TwoUses;
 
 // A console as the program has it.
@@ -20,7 +20,7 @@ fn check_line(
     line: &[u8],
     expected: &[u8],
 ) {
-    let mut printed = Printed::new();
+    let mut printed = TextBuffer::new();
     assert_eq!(rt; console.take(line, &mut printed), line.len());
     assert_eq!(rt; printed.text(), expected);
 }
@@ -31,7 +31,7 @@ fn claim_all(
     alloc: Global,
     console: &mut Console<TwoUses, Newest>,
 ) -> Result<(), AllocError> {
-    let mut printed = Printed::new();
+    let mut printed = TextBuffer::new();
     for section in 0..512 {
         let line = format!(in alloc; "C 1 {section} 0\n")?;
         console.take(line.as_bytes(), &mut printed);
@@ -53,7 +53,7 @@ fn the_513th_claim_is_refused_at_the_console(rt: HostRuntime) -> Result<(), Fail
 #[test]
 fn line_1000000_is_the_last(rt: HostRuntime) {
     let mut console = new_console();
-    let mut printed = Printed::new();
+    let mut printed = TextBuffer::new();
     for _ in 1..1000000u32 {
         console.take(b"S\n", &mut printed);
     }
@@ -67,7 +67,7 @@ fn line_1000000_is_the_last(rt: HostRuntime) {
 #[test]
 fn a_rest_is_answered_at_the_end(rt: HostRuntime) {
     let mut console = new_console();
-    let mut printed = Printed::new();
+    let mut printed = TextBuffer::new();
     assert_eq!(rt; console.take(b"O 1", &mut printed), 3);
     assert_eq!(rt; printed.text(), b"".as_slice());
     assert_eq!(rt; console.take(b" 5\nS", &mut printed), 3);

@@ -1,15 +1,54 @@
 #![tactic(auto)]
 
-// The console of a line: calls on standard input, answers on standard output. The book is
-// continuous, has the two uses look and move, and recalls the newest.
+// The console of a line: calls on standard input, answers on standard output. With no arguments the
+// book is continuous, has the two uses look and move, and recalls the newest; three arguments
+// choose another.
+mod arguments;
+
+use crate::arguments::read_setting;
 use model::state::Detection;
+use orders::order::RecallOrder;
 use orders::single::Newest;
 use session::console::Console;
 use session::serving::serve;
-use std::io;
+use settings::setting::Wrong;
+use std::process::ExitCode;
+use std::{env, io};
+use uses::table::UseTable;
 use uses::two_uses::TwoUses;
 
-fn main(rt: HostRuntime) -> io::Result<()> {
-    let mut console = Console::new(TwoUses, Newest, Detection::Continuous);
-    serve(&rt, &mut console)
+// How the program is called.
+const USAGE: &str = "usage: console [DETECTION TABLE ORDER[,ORDER]]
+    DETECTION  continuous or periodic
+    TABLE      two, five or span
+    ORDER      newest, lightest or fewest";
+
+// Answers what is wrong with the arguments.
+fn complain(rt: &HostRuntime, wrong: Wrong) -> io::Result<ExitCode> {
+    eprintln!(rt; "console: {wrong}")?;
+    eprintln!(rt; "{USAGE}")?;
+    Ok(ExitCode::FAILURE)
+}
+
+// Serves standard input with a new book.
+fn serve_book<T: UseTable + Drop, O: RecallOrder + Drop>(
+    rt: &HostRuntime,
+    table: T,
+    order: O,
+    detection: Detection,
+) -> io::Result<ExitCode> {
+    let mut console = Console::new(table, order, detection);
+    serve(rt, &mut console)?;
+    Ok(ExitCode::SUCCESS)
+}
+
+fn main(rt: HostRuntime) -> io::Result<ExitCode> {
+    let Ok(args) = env::args(&rt) else {
+        return complain(&rt, Wrong::Unreadable);
+    };
+    match read_setting(args) {
+        Ok(None) => serve_book(&rt, TwoUses, Newest, Detection::Continuous),
+        Ok(Some(chosen)) => serve_book(&rt, chosen.table, chosen.order, chosen.detection),
+        Err(wrong) => complain(&rt, wrong),
+    }
 }

@@ -1,7 +1,7 @@
 #![tactic(auto)]
 
 // Lists in fixed memory. The contracts speak of a list by its entries, in order.
-ghost use Rattle.std.specs.Prelude.{◌≡◌, ◌<◌, ◌≤◌, ◌↔◌, IsTrue, Bool, [], ◌∷◌, ◌++◌, length, filter};
+ghost use Rattle.std.specs.Prelude.{◌≡◌, ◌+◌, ◌<◌, ◌≤◌, ◌↔◌, IsTrue, Bool, [], ◌∷◌, ◌++◌, length, filter};
 ghost use Rattle.std.specs.Fn.{FnReturnsAt};
 
 use std::marker::Model;
@@ -79,6 +79,18 @@ impl<X: Copy, const N: usize> FixedList<X, N> {
     {
         self.items[self.count] = x;
         self.count += 1;
+    }
+
+    /// Puts entries behind the others.
+    pub fn extend_from_slice(&mut self, more: &[X])
+        requires { length self.old + length more.now ≤ N }
+        ensures { self.new ≡ self.old ++ more.now }
+    {
+        let start = self.count;
+        let end = start + more.len();
+        let items = &mut self.items[..];
+        items[start..end].copy_from_slice(more);
+        self.count = end;
     }
 
     /// Keeps the entries that pass the test, in order, and drops the others (a filter in place).

@@ -2,7 +2,7 @@
 use Rattle.std.proofs.Common.{◌≡◌, ℕ, suc, ◌+◌, ◌-◌, ◌<◌, ◌≤◌, List, [], ◌∷◌, ◌++◌, length, get_or, take, drop, sym, refl, ap, ◌∙◌, subst, append_assoc, arith}
 use Rattle.std.proofs.lemmas.List.{append-nil, length-append, nil_from_length}
 use Rattle.std.proofs.lemmas.Slice.{first_rest}
-use Rattle.protocol.specs.Fields.{DigitFirst, Takes, Stuck, NoField, WrongFields}
+use Rattle.protocol.specs.Fields.{DigitFirst, Takes, IsStuck, NoField, WrongFields}
 use Rattle.protocol.specs.declared.fault.Fault.TheVariants.{WrongForm}
 use Rattle.protocol.specs.Form.{Fields}
 use Rattle.protocol.specs.declared.fault.Fault.{Fault}
@@ -19,14 +19,14 @@ no_field_space text place e is none = (0, is ∙ ap (λ (n : ℕ). WrongForm n) 
 
 -- no field begins where no digit stands behind the space
 pub no_field_digit : (text from : List ℕ) (place : ℕ) (e : Fault) → text ≡ 32 ∷ from → e ≡ WrongForm (place + 1) → (DigitFirst from → ⊥) → NoField text place e
-no_field_digit text from place e whole is none = (1, is, λ count. subst (λ (t : List ℕ). Stuck (suc count) 1 t) (sym whole) (stuck_digit count from none))
+no_field_digit text from place e whole is none = (1, is, λ count. subst (λ (t : List ℕ). IsStuck (suc count) 1 t) (sym whole) (stuck_digit count from none))
 
 -- the numbers are read from the front of the text, and the rest begins at a place
 pub record Came (text numbers rest : List ℕ) (place : ℕ) : Type 0 where
   pub behind : 2 ≤ place
   pub sized : place + length rest ≡ 2 + length text
   pub reads : (ns : List ℕ) → Fields ns rest → Fields (numbers ++ ns) text
-  pub sticks : (count p all q : ℕ) → all ≡ length numbers + count → 2 + q ≡ place + p → Stuck count p rest → Stuck all q text
+  pub sticks : (count p all q : ℕ) → all ≡ length numbers + count → 2 + q ≡ place + p → IsStuck count p rest → IsStuck all q text
 
 -- at the start
 pub came_start : (text : List ℕ) → Came text [] text 2
@@ -34,7 +34,7 @@ came_start text = record {
   behind = omega arith;
   sized = refl;
   reads = λ ns h. h;
-  sticks = λ count p all q e f h. let a : count ≡ all = omega arith in let b : p ≡ q = omega arith in subst (λ (n : ℕ). Stuck n q text) a (subst (λ (n : ℕ). Stuck count n text) b h);
+  sticks = λ count p all q e f h. let a : count ≡ all = omega arith in let b : p ≡ q = omega arith in subst (λ (n : ℕ). IsStuck n q text) a (subst (λ (n : ℕ). IsStuck count n text) b h);
 }
 
 -- one field further
@@ -51,7 +51,7 @@ came_more text numbers rest from place number behind after came is taken =
       behind = omega arith;
       sized = omega arith;
       reads = λ ns h. subst (λ (ms : List ℕ). Fields ms text) (sym (append_assoc numbers (number ∷ []) ns)) (came.reads (number ∷ ns) (subst (λ (t : List ℕ). Fields (number ∷ ns) t) (sym whole) (one_more ns behind taken.field h)));
-      sticks = λ count p all q e f h. came.sticks (suc count) (1 + length taken.digits + p) all q (omega arith) (omega arith) (subst (λ (t : List ℕ). Stuck (suc count) (1 + length taken.digits + p) t) (sym whole) (stuck_more taken.digits behind count p (1 + length taken.digits + p) taken.field taken.complete refl h));
+      sticks = λ count p all q e f h. came.sticks (suc count) (1 + length taken.digits + p) all q (omega arith) (omega arith) (subst (λ (t : List ℕ). IsStuck (suc count) (1 + length taken.digits + p) t) (sym whole) (stuck_more taken.digits behind count p (1 + length taken.digits + p) taken.field taken.complete refl h));
     }
 
 -- no field begins where the rest begins, and more are to come

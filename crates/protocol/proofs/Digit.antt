@@ -1,14 +1,12 @@
 -- Digits at the front of a text.
-use Rattle.std.proofs.Common.{◌≡◌, ℕ, zero, suc, ◌+◌, ◌-◌, ◌*◌, ◌<◌, ◌≤◌, cond, eqb, ◌⊎◌, true, min, List, [], ◌∷◌, ◌++◌, length, get_or, take, drop, sym, refl, ap, ◌∙◌, subst, inl, ⊎_elim, arith}
+use Rattle.std.proofs.Common.{◌≡◌, ℕ, zero, suc, ◌+◌, ◌-◌, ◌*◌, ◌<◌, ◌≤◌, cond, eqb, ◌⊎◌, true, false, min, List, [], ◌∷◌, ◌++◌, length, get_or, take, drop, sym, refl, ap, ◌∙◌, subst, inl, ⊎_elim, arith}
 use Rattle.std.specs.Str.Parse.{AllDigits, digits_value}
 use Rattle.std.specs.Char.{digit_value, is_ascii_digit}
-use Rattle.std.specs.List.{prefix_len}
 use Rattle.std.proofs.lemmas.Bool.{cases_lt, false≢true}
-use Rattle.std.proofs.lemmas.List.{get_or-drop, get_or-take, get_or_past, length-take-le, take-append-drop, take_rest}
+use Rattle.std.proofs.lemmas.List.{get_or-drop, get_or-take, drop_all, length-take, length-take-le, take-append-drop, take_rest}
 use Rattle.std.proofs.lemmas.Int.Digits.{digits_value_more}
-use Rattle.std.proofs.lemmas.List.Sums.{prefix_len-le-length, prefix_len_stops}
 use Rattle.std.proofs.lemmas.Str.{digit_value_digit}
-use Rattle.std.proofs.lemmas.Str.Parse.{numerals_by_value, tells_digits, digits_value_short, digit_at, digit_from_value}
+use Rattle.std.proofs.lemmas.Str.Parse.{numerals_by_value, tells_digits, digits_value_short, digit_from_value}
 use Rattle.std.proofs.lemmas.Bool.Decides.{nat_tests}
 use Rattle.protocol.specs.Fields.{DigitFirst, most_digits, Counts, Takes}
 use Rattle.protocol.specs.Form.{Field}
@@ -31,54 +29,54 @@ digits_take zero ds h = tt
 digits_take (suc i) [] h = tt
 digits_take (suc i) (d ∷ ds) h = (h.0, digits_take i ds h.1)
 
--- before the last of six digits the number is small
-pub value_small : (ds : List ℕ) (i : ℕ) → AllDigits 10 ds → i < length ds → length ds ≤ 6 → digits_value 10 (take i ds) < 100000
-value_small ds i h inside few = let long = length-take-le i ds (omega arith) in digits_value_short (numerals_by_value (AllDigits 10) tells_digits) (take i ds) 5 (digits_take i ds h) (omega arith)
+-- before the last of the digits of a field the number is small
+pub value_small : (text : List ℕ) (i : ℕ) → AllDigits 10 (take i text) → i < most_digits text → digits_value 10 (take i text) < 100000
+value_small text i h few = digits_value_short (numerals_by_value (AllDigits 10) tells_digits) (take i text) 5 h (let most : most_digits text ≤ 6 = grind (arith, nat_tests) in omega (arith, length-take i text))
+
+-- what is a digit has a value below ten, and is in the range of digits
+pub digit_range : (c : ℕ) → is_ascii_digit c ≡ true → (digit_value c < 10) × ((48 ≤ c) × (c ≤ 57))
+digit_range c h = let low : 48 ≤ c = grind (arith, nat_tests, h) in let high : c ≤ 57 = grind (arith, nat_tests, h) in (let e = digit_value_digit c (low, high) in omega arith, (low, high))
 
 -- one digit more
-pub value_next : (ds : List ℕ) (i : ℕ) → AllDigits 10 ds → i < length ds → digits_value 10 (take (i + 1) ds) ≡ digits_value 10 (take i ds) * 10 + (get_or ds i 0 - 48)
-value_next ds i h inside =
-    let value = digit_value_digit (get_or ds i 0) (digit_at ds i h inside) in
-    omega (arith, digits_value_more 10 ds i inside)
+pub value_next : (text : List ℕ) (i : ℕ) → i < length text → is_ascii_digit (get_or text i 0) ≡ true → digits_value 10 (take (i + 1) text) ≡ digits_value 10 (take i text) * 10 + (get_or text i 0 - 48)
+value_next text i inside h =
+    let range = digit_range (get_or text i 0) h in
+    let value = digit_value_digit (get_or text i 0) range.1 in
+    omega (arith, digits_value_more 10 text i inside)
 
--- digits at the front of a text
-front_digits : (n : ℕ) (text : List ℕ) → n ≤ prefix_len is_ascii_digit text → AllDigits 10 (take n text)
-front_digits zero text h = tt
-front_digits (suc n) [] h = tt
-front_digits (suc n) (x ∷ xs) h = (digit_below x (suc n) (prefix_len is_ascii_digit xs) (omega arith) h, front_digits n xs (fewer x n (prefix_len is_ascii_digit xs) h))
-  where
-    digit_below : (x m n : ℕ) → 0 < m → m ≤ cond (is_ascii_digit x) (1 + n) 0 → digit_value x < 10
-    digit_below x m n some h = grind (arith, nat_tests, some, h)
-
-    fewer : (x m n : ℕ) → suc m ≤ cond (is_ascii_digit x) (1 + n) 0 → m ≤ n
-    fewer x m n h = grind (arith, nat_tests, h)
+-- so all of them are digits
+pub digits_next : (text : List ℕ) (i : ℕ) → AllDigits 10 (take i text) → i < length text → is_ascii_digit (get_or text i 0) ≡ true → AllDigits 10 (take (i + 1) text)
+digits_next [] i h inside is = absurd (let s : ⊥ = omega arith in s)
+digits_next (x ∷ xs) zero h inside is = ((digit_range x is).0, tt)
+digits_next (x ∷ xs) (suc i) h inside is = subst (λ (n : ℕ). AllDigits 10 (take n (x ∷ xs))) (let e : suc (i + 1) ≡ suc i + 1 = omega arith in e) (h.0, digits_next xs i h.1 (omega arith) is)
 
 -- what has a value below ten is a digit
-is_digit : (c : ℕ) → digit_value c < 10 → is_ascii_digit c ≡ true
+pub is_digit : (c : ℕ) → digit_value c < 10 → is_ascii_digit c ≡ true
 is_digit c h = let range = digit_from_value c h in grind (arith, nat_tests, range)
 
--- behind the digits at the front of a text stands no digit
-none_behind : (text : List ℕ) → digit_value (get_or text (prefix_len is_ascii_digit text) 0) < 10 → ⊥
-none_behind text h =
-    let n = prefix_len is_ascii_digit text in
-    ⊎_elim
-    (λ inside. false≢true (sym (prefix_len_stops is_ascii_digit text 0 inside) ∙ is_digit (get_or text n 0) h))
-    (λ past. no_digit_end (subst (λ (c : ℕ). digit_value c < 10) (get_or_past text n 0 past) h))
-    (cases_lt n (length text))
+-- digits at the front of a text, behind which no digit stands
+pub counts_stopped : (text : List ℕ) (count : ℕ) → AllDigits 10 (take count text) → count < min (most_digits text) (length text) → is_ascii_digit (get_or text count 0) ≡ false → Counts text count
+counts_stopped text count h less other = record {
+  inside = omega arith;
+  few = omega arith;
+  digits = h;
+  complete = λ first. absurd (false≢true (sym other ∙ is_digit (get_or text count 0) (subst (λ (c : ℕ). digit_value c < 10) here first)));
+}
+  where
+    here : get_or (drop count text) 0 0 ≡ get_or text count 0
+    here = get_or-drop count text 0 0 ∙ ap (λ (i : ℕ). get_or text i 0) (let e : count + 0 ≡ count = omega arith in e)
 
--- the digits at the front of a text, up to the most
-pub counted : (text : List ℕ) (count : ℕ) → count ≡ min (prefix_len is_ascii_digit text) (most_digits text) → Counts text count
-counted text count is =
-    let n = prefix_len is_ascii_digit text in
-    let bound = prefix_len-le-length is_ascii_digit text in
-    let here : get_or (drop count text) 0 0 ≡ get_or text count 0 = get_or-drop count text 0 0 ∙ ap (λ (i : ℕ). get_or text i 0) (let e : count + 0 ≡ count = omega arith in e) in
-    let some_more : digit_value (get_or text count 0) < 10 → count < most_digits text → ⊥ = λ h less. none_behind text (subst (λ (i : ℕ). digit_value (get_or text i 0) < 10) (let e : count ≡ n = omega arith in e) h) in
-    record {
-      inside = omega arith;
-      few = omega arith;
-      digits = front_digits count text (omega arith);
-      complete = λ h. let none = some_more (subst (λ (c : ℕ). digit_value c < 10) here h) in omega arith;
-    }
+-- as many digits as a field has, or all of the text
+pub counts_all : (text : List ℕ) (count : ℕ) → AllDigits 10 (take count text) → count ≡ min (most_digits text) (length text) → Counts text count
+counts_all text count h all = record {
+  inside = omega arith;
+  few = omega arith;
+  digits = h;
+  complete = λ first. ⊎_elim
+      (λ (inside : count < length text). let e : count ≡ most_digits text = omega arith in e)
+      (λ (past : length text ≤ count). absurd (no_digit_end (subst DigitFirst (drop_all count text past) first)))
+      (cases_lt count (length text));
+}
 
 -- where none are counted, no digit stands first
 pub none_counted : (text : List ℕ) → Counts text 0 → DigitFirst text → ⊥

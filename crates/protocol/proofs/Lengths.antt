@@ -6,7 +6,7 @@ use Rattle.std.proofs.lemmas.Fmt.{length-decimal-le}
 use Rattle.model.specs.Calls.{answer_refused}
 use Rattle.book.specs.declared.answer.Answer.{Answer}
 use Rattle.book.specs.declared.answer.Answer.TheVariants.{Ok, Granted, Covered, Waits, Recalled}
-use Rattle.protocol.specs.Words.{words, answer, fault, reply_to, printed_line, named_words, named_lines, names}
+use Rattle.protocol.specs.Words.{words, answer, fault, reply_to, printed_line, entry_words, entry_lines, entries}
 
 -- a number of 8 bits has at most 3 digits
 digits_3 : (n : ℕ) → n < 256 → length (decimal n) ≤ 3
@@ -45,7 +45,7 @@ named_length : (word x y : List ℕ) → length (word ++ (codes " " ++ (x ++ (co
 named_length word x y = omega (arith, length-append word (codes " " ++ (x ++ (codes " " ++ y))), length-append x (codes " " ++ y))
 
 -- the words of one who is named
-named_short : (word : List ℕ) (d s : ℕ) → length word ≤ 6 → d < 256 → s < 65536 → length (named_words word (record { dispatch = d; section = s })) ≤ 16
+named_short : (word : List ℕ) (d s : ℕ) → length word ≤ 6 → d < 256 → s < 65536 → length (entry_words word (record { dispatch = d; section = s })) ≤ 16
 named_short word d s h k m = omega (arith, named_length word (decimal d) (decimal s), digits_3 d k, length-decimal-le 5 s (omega arith) (omega arith) (omega arith))
 
 -- all elements are below a limit
@@ -64,12 +64,12 @@ pub below_drop : (limit n : ℕ) (xs : List ℕ) → Below limit xs → Below li
 below_drop limit n xs h i = subst (λ (x : ℕ). x < limit) (sym (get_or-drop n xs i 0)) (h (n + i))
 
 -- the lines of those who are named
-pub lines_short : (number : ℕ) (word ds ss : List ℕ) → number < 2 ^ 32 → length word ≤ 6 → Below 256 ds → Below 65536 ss → length (named_lines number word (names ds ss)) ≤ 28 * length ds
+pub lines_short : (number : ℕ) (word ds ss : List ℕ) → number < 2 ^ 32 → length word ≤ 6 → Below 256 ds → Below 65536 ss → length (entry_lines number word (entries ds ss)) ≤ 28 * length ds
 lines_short number word [] ss h k below below' = omega arith
 lines_short number word (d ∷ ds) [] h k below below' = omega arith
 lines_short number word (d ∷ ds) (s ∷ ss) h k below below' =
-    let ws = named_words word (record { dispatch = d; section = s }) in
+    let ws = entry_words word (record { dispatch = d; section = s }) in
     let first = line_short number ws h (named_short word d s k (below 0) (below' 0)) in
     let others = lines_short number word ds ss h k (λ i. below (suc i)) (λ i. below' (suc i)) in
-    let both = length-append (printed_line number ws) (named_lines number word (names ds ss)) in
+    let both = length-append (printed_line number ws) (entry_lines number word (entries ds ss)) in
     omega arith

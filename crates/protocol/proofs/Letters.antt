@@ -6,9 +6,10 @@ use Rattle.model.specs.declared.call.Call.{Call}
 use Rattle.model.specs.declared.call.Call.TheVariants.{Open, Claim, Close, Withdraw, Acknowledge, Sweep}
 use Rattle.protocol.specs.declared.fault.Fault.TheVariants.{TooLong, NoLetter, WrongForm}
 use Rattle.protocol.specs.Fields.{Goes, WrongFields}
-use Rattle.protocol.specs.Form.{Fields, letter, numbers, Correct, agree, GoesOn}
+use Rattle.protocol.specs.Form.{Fields, letter, numbers, IsCorrect, GoesOn}
 use Rattle.protocol.specs.Reading.{HasLetter, Reading, too_long, no_letter, wrong_form, correct}
 use Rattle.protocol.specs.declared.fault.Fault.{Fault}
+use Rattle.protocol.proofs.Agreeing.{Agree, agree_more, agree_first}
 
 -- how many fields stand behind a letter
 abbrev pub fields_behind : ℕ → ℕ
@@ -46,19 +47,19 @@ letter_first : (l : ℕ) (text : List ℕ) (c : Call) → byte c ≡ l → l ∷
 letter_first l text c e = ap (λ (x : ℕ). x ∷ text) (sym e) ∙ ap (λ (xs : List ℕ). xs ++ text) (sym (one_byte c))
 
 -- a line with the letter in front of the fields of a call
-correct_line : (l : ℕ) (text : List ℕ) (c : Call) → byte c ≡ l → Fields (numbers c) text → Correct (l ∷ text) c
+correct_line : (l : ℕ) (text : List ℕ) (c : Call) → byte c ≡ l → Fields (numbers c) text → IsCorrect (l ∷ text) c
 correct_line l text c e h = (text, letter_first l text c e, h)
 
 -- where fields go on, so does the line with its letter in front
 line_goes : {l : ℕ} {call : List ℕ → Call} → Spells l call → (p : ℕ) (text : List ℕ) → Goes (fields_behind l) p text → GoesOn (suc p) (l ∷ text)
 line_goes {l} {call} spells p text (ns, other, long, fields, same) =
-    (call ns, l ∷ other, correct_line l other (call ns) (spells.starts ns) (subst (λ (ms : List ℕ). Fields ms other) (sym (spells.has ns long)) fields), (refl, same))
+    (call ns, l ∷ other, correct_line l other (call ns) (spells.starts ns) (subst (λ (ms : List ℕ). Fields ms other) (sym (spells.has ns long)) fields), agree_more p l text other same)
 
 -- where a line goes on, so do its fields
 fields_go : (l p : ℕ) (text : List ℕ) → GoesOn (suc p) (l ∷ text) → Goes (fields_behind l) p text
 fields_go l p text (c, other, (rest, is, fields), same) =
     let whole : other ≡ byte c ∷ rest = is ∙ ap (λ (xs : List ℕ). xs ++ rest) (one_byte c) in
-    let there = subst (λ (o : List ℕ). agree (suc p) (l ∷ text) o) whole same in
+    let there = agree_first p l (byte c) text rest (subst (λ (o : List ℕ). Agree (suc p) (l ∷ text) o) whole same) in
     (numbers c, rest, as_many c ∙ ap fields_behind (sym there.0), fields, there.1)
 
 -- fields that go wrong: the line is of wrong form, one place later

@@ -1,30 +1,21 @@
 -- A line is read in one way.
-use Rattle.std.proofs.Common.{◌≡◌, ℕ, zero, suc, ◌<◌, ◌≤◌, cond, eqb, List, [], ◌∷◌, ◌++◌, length, get_or, Ok, Err, sym, refl, ap, ◌∙◌, subst, arith}
+use Rattle.std.proofs.Common.{◌≡◌, ℕ, zero, suc, ◌<◌, ◌≤◌, cond, eqb, List, [], ◌∷◌, ◌++◌, length, get_or, take, Ok, Err, sym, refl, ap, ◌∙◌, subst, arith}
 use Rattle.std.specs.Str.Parse.{AllDigits, digits_value}
 use Rattle.model.specs.declared.call.Call.{Call}
 use Rattle.model.specs.declared.call.Call.TheVariants.{Open, Claim, Close, Withdraw, Acknowledge, Sweep}
 use Rattle.protocol.specs.declared.fault.Fault.TheVariants.{WrongForm}
 use Rattle.protocol.specs.Fields.{DigitFirst}
-use Rattle.protocol.specs.Form.{Fields, numbers, Correct, agree, GoesOn, FirstWrong}
+use Rattle.protocol.specs.Form.{Fields, numbers, IsCorrect, GoesOn, FirstWrong}
 use Rattle.protocol.specs.Reading.{HasLetter, too_long, no_letter, wrong_form, correct}
 use Rattle.protocol.specs.Theorems.{ReadingUnique}
+use Rattle.std.proofs.lemmas.List.{take-take}
+use Rattle.protocol.proofs.Agreeing.{Agree}
 use Rattle.protocol.proofs.Letters.{byte, one_byte, as_many, fields_behind}
 use Rattle.protocol.proofs.Sticking.{fields_no_digit}
 
--- a text agrees with itself
-agree_self : (n : ℕ) (xs : List ℕ) → agree n xs xs
-agree_self zero xs = tt
-agree_self (suc n) [] = tt
-agree_self (suc n) (x ∷ xs) = (refl, agree_self n xs)
-
--- texts that agree in more places agree in fewer
-agree_fewer : (m n : ℕ) (xs ys : List ℕ) → m ≤ n → agree n xs ys → agree m xs ys
-agree_fewer zero n xs ys h a = tt
-agree_fewer (suc m) zero xs ys h a = absurd (let s : ⊥ = omega (arith, h) in s)
-agree_fewer (suc m) (suc n) [] [] h a = tt
-agree_fewer (suc m) (suc n) [] (y ∷ ys) h a = absurd a
-agree_fewer (suc m) (suc n) (x ∷ xs) [] h a = absurd a
-agree_fewer (suc m) (suc n) (x ∷ xs) (y ∷ ys) h a = (a.0, agree_fewer m n xs ys (omega (arith, h)) a.1)
+-- texts that have more first places in common have fewer
+agree_fewer : (m n : ℕ) (xs ys : List ℕ) → m ≤ n → Agree n xs ys → Agree m xs ys
+agree_fewer m n xs ys h a = sym (take-take m n xs h) ∙ (ap (take m) a ∙ take-take m n ys h)
 
 -- where a line goes on, it went on before
 goes_fewer : (m n : ℕ) (line : List ℕ) → m ≤ n → GoesOn n line → GoesOn m line
@@ -44,9 +35,9 @@ one_place m n line a b =
     omega (arith, below, above)
 
 -- a correct line has no wrong place
-none_wrong : (n : ℕ) (line : List ℕ) (c : Call) → Correct line c → FirstWrong n line → ⊥
+none_wrong : (n : ℕ) (line : List ℕ) (c : Call) → IsCorrect line c → FirstWrong n line → ⊥
 none_wrong zero line c is wrong = wrong
-none_wrong (suc n) line c is wrong = wrong.1 (c, line, is, agree_self (suc n) line)
+none_wrong (suc n) line c is wrong = wrong.1 (c, line, is, refl)
 
 -- digits before texts that begin with none are the same, and so are the texts
 same_digits : (ds es rest other : List ℕ) → AllDigits 10 ds → AllDigits 10 es → (DigitFirst rest → ⊥) → (DigitFirst other → ⊥) → ds ++ rest ≡ es ++ other → (ds ≡ es) × (rest ≡ other)
@@ -91,7 +82,7 @@ one_call c d l n =
     sym (spelled_back c) ∙ (ap (λ (x : ℕ). spelled x (numbers c)) l ∙ (ap (λ (ns : List ℕ). spelled (byte d) ns) n ∙ spelled_back d))
 
 -- a correct line writes one call
-one_correct : (line : List ℕ) (c d : Call) → Correct line c → Correct line d → c ≡ d
+one_correct : (line : List ℕ) (c d : Call) → IsCorrect line c → IsCorrect line d → c ≡ d
 one_correct line c d (text, is, fields) (other, are, others) =
     let lines : byte c ∷ text ≡ byte d ∷ other = ap (λ (xs : List ℕ). xs ++ text) (sym (one_byte c)) ∙ (sym is ∙ (are ∙ ap (λ (xs : List ℕ). xs ++ other) (one_byte d))) in
     let letters : byte c ≡ byte d = grind (arith, lines) in
@@ -100,7 +91,7 @@ one_correct line c d (text, is, fields) (other, are, others) =
     one_call c d letters (one_list (numbers c) (numbers d) other long (subst (λ (t : List ℕ). Fields (numbers c) t) texts fields) others)
 
 -- a correct line has its letter
-has_letter : (line : List ℕ) (c : Call) → Correct line c → HasLetter line
+has_letter : (line : List ℕ) (c : Call) → IsCorrect line c → HasLetter line
 has_letter line c (text, is, _) = (c, text, is)
 
 -- too long and not too long

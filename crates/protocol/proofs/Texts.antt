@@ -1,12 +1,51 @@
 -- The fields of a given text, by computation.
-use Rattle.std.proofs.Common.{◌≡◌, ℕ, ◌+◌, ◌-◌, ◌<◌, min, List, [], ◌∷◌, ◌++◌, length, take, drop, refl, subst}
+use Rattle.std.proofs.Common.{◌≡◌, ℕ, zero, suc, ◌+◌, ◌-◌, ◌<◌, ◌≤◌, cond, min, List, [], ◌∷◌, ◌++◌, length, get_or, take, drop, sym, refl, ap, ◌∙◌, subst, ⊎_elim, arith}
 use Rattle.std.specs.List.{prefix_len}
-use Rattle.std.specs.Char.{is_ascii_digit}
-use Rattle.std.specs.Str.Parse.{digits_value}
-use Rattle.protocol.specs.Fields.{most_digits}
+use Rattle.std.specs.Char.{digit_value, is_ascii_digit}
+use Rattle.std.specs.Str.Parse.{AllDigits, digits_value}
+use Rattle.std.proofs.lemmas.Bool.{cases_lt, false≢true}
+use Rattle.std.proofs.lemmas.Bool.Decides.{nat_tests}
+use Rattle.std.proofs.lemmas.List.{get_or-drop, get_or_past}
+use Rattle.std.proofs.lemmas.List.Sums.{prefix_len-le-length, prefix_len_stops}
+use Rattle.protocol.specs.Fields.{most_digits, Counts}
 use Rattle.protocol.specs.Form.{Fields}
-use Rattle.protocol.proofs.Digit.{counted, takes_digits}
+use Rattle.protocol.proofs.Digit.{is_digit, no_digit_end, takes_digits}
 use Rattle.protocol.proofs.Coming.{Came, came_start, came_more, came_whole}
+
+-- digits at the front of a text
+front_digits : (n : ℕ) (text : List ℕ) → n ≤ prefix_len is_ascii_digit text → AllDigits 10 (take n text)
+front_digits zero text h = tt
+front_digits (suc n) [] h = tt
+front_digits (suc n) (x ∷ xs) h = (digit_below x (suc n) (prefix_len is_ascii_digit xs) (omega arith) h, front_digits n xs (fewer x n (prefix_len is_ascii_digit xs) h))
+  where
+    digit_below : (x m n : ℕ) → 0 < m → m ≤ cond (is_ascii_digit x) (1 + n) 0 → digit_value x < 10
+    digit_below x m n some h = grind (arith, nat_tests, some, h)
+
+    fewer : (x m n : ℕ) → suc m ≤ cond (is_ascii_digit x) (1 + n) 0 → m ≤ n
+    fewer x m n h = grind (arith, nat_tests, h)
+
+-- behind the digits at the front of a text stands no digit
+none_behind : (text : List ℕ) → digit_value (get_or text (prefix_len is_ascii_digit text) 0) < 10 → ⊥
+none_behind text h =
+    let n = prefix_len is_ascii_digit text in
+    ⊎_elim
+    (λ inside. false≢true (sym (prefix_len_stops is_ascii_digit text 0 inside) ∙ is_digit (get_or text n 0) h))
+    (λ past. no_digit_end (subst (λ (c : ℕ). digit_value c < 10) (get_or_past text n 0 past) h))
+    (cases_lt n (length text))
+
+-- the digits at the front of a text, up to the most
+pub counted : (text : List ℕ) (count : ℕ) → count ≡ min (prefix_len is_ascii_digit text) (most_digits text) → Counts text count
+counted text count is =
+    let n = prefix_len is_ascii_digit text in
+    let bound = prefix_len-le-length is_ascii_digit text in
+    let here : get_or (drop count text) 0 0 ≡ get_or text count 0 = get_or-drop count text 0 0 ∙ ap (λ (i : ℕ). get_or text i 0) (let e : count + 0 ≡ count = omega arith in e) in
+    let some_more : digit_value (get_or text count 0) < 10 → count < most_digits text → ⊥ = λ h less. none_behind text (subst (λ (i : ℕ). digit_value (get_or text i 0) < 10) (let e : count ≡ n = omega arith in e) h) in
+    record {
+      inside = omega arith;
+      few = omega arith;
+      digits = front_digits count text (omega arith);
+      complete = λ h. let none = some_more (subst (λ (c : ℕ). digit_value c < 10) here h) in omega arith;
+    }
 
 -- how many digits a field has at the front of the text
 abbrev pub size : List ℕ → ℕ

@@ -1,4 +1,5 @@
--- Worked examples: lines with what each is read as, outcomes with all that is printed for each, and the places of faults. They can be checked by hand.
+-- Worked examples: lines with what each is read as, outcomes with all that is printed for each, and
+-- the places of faults. They can be checked by hand.
 use Rattle.std.specs.Prelude.{◌≡◌, ℕ, List, [], ◌∷◌, replicate, codes, Ok, Err, Result}
 use Rattle.std.specs.List.{AllByRecursion}
 use Rattle.model.specs.declared.call.Call.{Call}
@@ -29,18 +30,30 @@ read_as line outcome = record { line = line; outcome = outcome }
 -- a line for each letter
 abbrev pub correct_lines : List LineRead
 correct_lines =
-    read_as (codes "O 63 1000") (Ok (Open 63 1000)) ∷ read_as (codes "C 1 1023 196871") (Ok (Claim 1 1023 196871))
-    ∷ read_as (codes "E 0") (Ok (Close 0)) ∷ read_as (codes "W 12") (Ok (Withdraw 12)) ∷ read_as (codes "A 7") (Ok (Acknowledge 7))
-    ∷ read_as (codes "S") (Ok Sweep) ∷ []
+    read_as (codes "O 63 1000") (Ok (Open 63 1000))
+    ∷ read_as (codes "C 1 1023 196871") (Ok (Claim 1 1023 196871))
+    ∷ read_as (codes "E 0") (Ok (Close 0))
+    ∷ read_as (codes "W 12") (Ok (Withdraw 12))
+    ∷ read_as (codes "A 7") (Ok (Acknowledge 7))
+    ∷ read_as (codes "S") (Ok Sweep)
+    ∷ []
 
--- lines that are not correct: 33 bytes, no byte, no letter, a field too few, one too many, a leading 0, seven digits, two spaces, a space at the end
+-- lines that are not correct: 33 bytes, no byte, no letter, a field too few, one too many, a leading
+-- 0, seven digits, two spaces, a space at the end
 abbrev pub wrong_lines : List LineRead
 wrong_lines =
-    read_as (83 ∷ replicate 32 32) (Err TooLong) ∷ read_as [] (Err NoLetter) ∷ read_as (codes "s") (Err NoLetter)
-    ∷ read_as (codes "O 1") (Err (WrongForm 4)) ∷ read_as (codes "E 1 2") (Err (WrongForm 4)) ∷ read_as (codes "O 01 5") (Err (WrongForm 4))
-    ∷ read_as (codes "W 1234567") (Err (WrongForm 9)) ∷ read_as (codes "A  1") (Err (WrongForm 3)) ∷ read_as (codes "S ") (Err (WrongForm 2)) ∷ []
+    read_as (83 ∷ replicate 32 32) (Err TooLong)
+    ∷ read_as [] (Err NoLetter)
+    ∷ read_as (codes "s") (Err NoLetter)
+    ∷ read_as (codes "O 1") (Err (WrongForm 4))
+    ∷ read_as (codes "E 1 2") (Err (WrongForm 4))
+    ∷ read_as (codes "O 01 5") (Err (WrongForm 4))
+    ∷ read_as (codes "W 1234567") (Err (WrongForm 9))
+    ∷ read_as (codes "A  1") (Err (WrongForm 3))
+    ∷ read_as (codes "S ") (Err (WrongForm 2))
+    ∷ []
 
--- the number of a line, what it gave, the recalled and the woken, and the text that is printed for it
+-- the number of a line, what it gave, the recalled and the woken, and the text printed for it
 pub record Printing : Type 0 where
   pub number : ℕ
   pub outcome : Result Answer Fault
@@ -54,24 +67,35 @@ IsPrinted x = printed x.number (reply_to x.outcome) x.recalls x.wakes ≡ x.text
 
 -- an outcome with nobody recalled or woken
 abbrev pub alone : ℕ → Result Answer Fault → List ℕ → Printing
-alone number outcome text = record { number = number; outcome = outcome; recalls = []; wakes = []; text = text }
+alone number outcome text =
+    record { number = number; outcome = outcome; recalls = []; wakes = []; text = text }
 
--- each answer, each refusal and each fault of a line, and an outcome with two recalled and one woken
+-- each answer, each refusal, each fault of a line, and an outcome with two recalled and one woken
 abbrev pub printings : List Printing
 printings =
-    alone 1 (Ok answer.Ok) (codes "1 ok\n") ∷ alone 2 (Ok answer.Granted) (codes "2 granted\n") ∷ alone 30 (Ok answer.Covered) (codes "30 covered\n")
-    ∷ alone 4 (Ok answer.Waits) (codes "4 waits\n") ∷ alone 5 (Err (Refused NumberTooHigh)) (codes "5 refused 1\n")
-    ∷ alone 6 (Err (Refused SectionTooHigh)) (codes "6 refused 2\n") ∷ alone 7 (Err (Refused NotKnown)) (codes "7 refused 3\n")
-    ∷ alone 8 (Err (Refused WeightTooHigh)) (codes "8 refused 4\n") ∷ alone 9 (Err (Refused IsRecalled)) (codes "9 refused 5\n")
-    ∷ alone 10 (Err (Refused IsOpen)) (codes "10 refused 6\n") ∷ alone 11 (Err (Refused IsFree)) (codes "11 refused 7\n")
-    ∷ alone 12 (Err (Refused IsWaiting)) (codes "12 refused 8\n") ∷ alone 13 (Err (Refused NoRoom)) (codes "13 refused 9\n")
-    ∷ alone 14 (Err (Refused NotRecalled)) (codes "14 refused 10\n") ∷ alone 15 (Err TooLong) (codes "15 fault 41 at 33\n")
-    ∷ alone 16 (Err NoLetter) (codes "16 fault 42 at 1\n") ∷ alone 17 (Err (WrongForm 4)) (codes "17 fault 43 at 4\n")
+    alone 1 (Ok answer.Ok) (codes "1 ok\n")
+    ∷ alone 2 (Ok answer.Granted) (codes "2 granted\n")
+    ∷ alone 30 (Ok answer.Covered) (codes "30 covered\n")
+    ∷ alone 4 (Ok answer.Waits) (codes "4 waits\n")
+    ∷ alone 5 (Err (Refused NumberTooHigh)) (codes "5 refused 1\n")
+    ∷ alone 6 (Err (Refused SectionTooHigh)) (codes "6 refused 2\n")
+    ∷ alone 7 (Err (Refused NotKnown)) (codes "7 refused 3\n")
+    ∷ alone 8 (Err (Refused WeightTooHigh)) (codes "8 refused 4\n")
+    ∷ alone 9 (Err (Refused IsRecalled)) (codes "9 refused 5\n")
+    ∷ alone 10 (Err (Refused IsOpen)) (codes "10 refused 6\n")
+    ∷ alone 11 (Err (Refused IsFree)) (codes "11 refused 7\n")
+    ∷ alone 12 (Err (Refused IsWaiting)) (codes "12 refused 8\n")
+    ∷ alone 13 (Err (Refused NoRoom)) (codes "13 refused 9\n")
+    ∷ alone 14 (Err (Refused NotRecalled)) (codes "14 refused 10\n")
+    ∷ alone 15 (Err TooLong) (codes "15 fault 41 at 33\n")
+    ∷ alone 16 (Err NoLetter) (codes "16 fault 42 at 1\n")
+    ∷ alone 17 (Err (WrongForm 4)) (codes "17 fault 43 at 4\n")
     ∷ alone 1000000 (Err TooManyLines) (codes "1000000 fault 44 at 1\n")
     ∷ record {
       number = 18;
       outcome = Ok answer.Recalled;
-      recalls = record { dispatch = 4; section = 12 } ∷ record { dispatch = 2; section = 1023 } ∷ [];
+      recalls =
+          record { dispatch = 4; section = 12 } ∷ record { dispatch = 2; section = 1023 } ∷ [];
       wakes = record { dispatch = 1; section = 0 } ∷ [];
       text = codes "18 recalled\n18 recall 4 12\n18 recall 2 1023\n18 wake 1 0\n";
     } ∷ []
@@ -79,9 +103,21 @@ printings =
 -- faults and their places
 abbrev pub places : List (Fault × ℕ)
 places =
-    (TooManyLines, 1) ∷ (TooLong, 33) ∷ (NoLetter, 1) ∷ (WrongForm 4, 4) ∷ (Refused NumberTooHigh, 1) ∷ (Refused SectionTooHigh, 2)
-    ∷ (Refused NotKnown, 3) ∷ (Refused WeightTooHigh, 2) ∷ (Refused IsRecalled, 1) ∷ (Refused IsOpen, 1) ∷ (Refused IsFree, 1)
-    ∷ (Refused IsWaiting, 1) ∷ (Refused NoRoom, 2) ∷ (Refused NotRecalled, 1) ∷ []
+    (TooManyLines, 1)
+    ∷ (TooLong, 33)
+    ∷ (NoLetter, 1)
+    ∷ (WrongForm 4, 4)
+    ∷ (Refused NumberTooHigh, 1)
+    ∷ (Refused SectionTooHigh, 2)
+    ∷ (Refused NotKnown, 3)
+    ∷ (Refused WeightTooHigh, 2)
+    ∷ (Refused IsRecalled, 1)
+    ∷ (Refused IsOpen, 1)
+    ∷ (Refused IsFree, 1)
+    ∷ (Refused IsWaiting, 1)
+    ∷ (Refused NoRoom, 2)
+    ∷ (Refused NotRecalled, 1)
+    ∷ []
 
 -- the worked examples are right
 pub record ExamplesRight : Type 0 where

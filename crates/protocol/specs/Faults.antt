@@ -8,7 +8,8 @@ use Rattle.protocol.specs.declared.fault.Fault.TheVariants.{TooManyLines, TooLon
 use Rattle.protocol.specs.declared.fault.Layer.{Layer}
 use Rattle.protocol.specs.declared.fault.Layer.TheVariants.{Line, UseTable, Book}
 
--- the field that a refusal concerns: the section and the weight are field 2, the use is field 3, the dispatch is field 1
+-- the field that a refusal concerns: the section and the weight are field 2, the use is field 3,
+-- the dispatch is field 1
 abbrev pub field : Refusal → ℕ
 field NumberTooHigh = 1
 field SectionTooHigh = 2

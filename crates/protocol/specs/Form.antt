@@ -1,5 +1,5 @@
 -- The form of a line: a grammar. A line is the bytes before byte 10.
-use Rattle.std.specs.Prelude.{◌≡◌, ℕ, zero, suc, ◌≤◌, List, [], ◌∷◌, ◌++◌, length, codes, slice_index_or}
+use Rattle.std.specs.Prelude.{◌≡◌, ℕ, zero, suc, ◌≤◌, List, [], ◌∷◌, ◌++◌, length, take, codes, slice_index_or}
 use Rattle.std.specs.Str.Parse.{AllDigits, digits_value}
 use Rattle.model.specs.declared.call.Call.{Call}
 use Rattle.model.specs.declared.call.Call.TheVariants.{Open, Claim, Close, Withdraw, Acknowledge, Sweep}
@@ -15,7 +15,9 @@ pub record Field (number : ℕ) (text : List ℕ) : Type 0 where
 -- fields that write the numbers, one space before each
 abbrev pub Fields : List ℕ → List ℕ → Type 0
 Fields [] text = text ≡ []
-Fields (n ∷ ns) text = (digits : List ℕ) × (rest : List ℕ) × (text ≡ codes " " ++ (digits ++ rest)) × Field n digits × Fields ns rest
+Fields (n ∷ ns) text =
+    (digits : List ℕ) × (rest : List ℕ)
+    × (text ≡ codes " " ++ (digits ++ rest)) × Field n digits × Fields ns rest
 
 -- the letter of a call
 abbrev pub letter : Call → List ℕ
@@ -36,22 +38,15 @@ numbers (Acknowledge d) = d ∷ []
 numbers Sweep = []
 
 -- a correct line for a call: its letter and its fields
-abbrev pub Correct : List ℕ → Call → Type 0
-Correct line c = (text : List ℕ) × (line ≡ letter c ++ text) × Fields (numbers c) text
+abbrev pub IsCorrect : List ℕ → Call → Type 0
+IsCorrect line c = (text : List ℕ) × (line ≡ letter c ++ text) × Fields (numbers c) text
 
--- two texts agree in the first places; the end counts as a place
-abbrev pub agree : ℕ → List ℕ → List ℕ → Type 0
-agree zero xs ys = Unit {0}
-agree (suc n) [] [] = Unit {0}
-agree (suc n) [] (y ∷ ys) = ⊥
-agree (suc n) (x ∷ xs) [] = ⊥
-agree (suc n) (x ∷ xs) (y ∷ ys) = (x ≡ y) × agree n xs ys
-
--- some correct line agrees with this one in the first places
+-- some correct line has the same first places as this one; the end counts as a place
 abbrev pub GoesOn : ℕ → List ℕ → Type 0
-GoesOn places line = (c : Call) × (other : List ℕ) × Correct other c × agree places line other
+GoesOn places line =
+    (c : Call) × (other : List ℕ) × IsCorrect other c × (take places line ≡ take places other)
 
 -- the place is the first, from 1, where no correct line goes on
 abbrev pub FirstWrong : ℕ → List ℕ → Type 0
 FirstWrong zero line = ⊥
-FirstWrong (suc before) line = GoesOn before line × (GoesOn (suc before) line → ⊥)
+FirstWrong (suc before) line = GoesOn before line × ¬ GoesOn (suc before) line

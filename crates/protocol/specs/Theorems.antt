@@ -6,4 +6,6 @@ use Rattle.protocol.specs.declared.fault.Fault.{Fault}
 
 -- a line is read in one way: as one call, or as one fault at one place
 abbrev pub ReadingUnique : Type 0
-ReadingUnique = (line : List ℕ) (one other : Result Call Fault) → Reading line one → Reading line other → one ≡ other
+ReadingUnique =
+    (line : List ℕ) (one other : Result Call Fault)
+    → Reading line one → Reading line other → one ≡ other

@@ -1,5 +1,6 @@
 -- The printed bytes.
 use Rattle.std.specs.Prelude.{ℕ, List, [], ◌∷◌, ◌++◌, take, drop, codes, decimal, Result}
+use Rattle.std.specs.List.{flat_map}
 use Rattle.std.specs.declared.result.Result.TheVariants as result
 use Rattle.model.specs.Calls.{ModelAnswer, answer_refused}
 use Rattle.model.specs.declared.report.ReportEntry.{ReportEntry}
@@ -26,18 +27,23 @@ abbrev pub printed_line : ℕ → List ℕ → List ℕ
 printed_line number ws = decimal number ++ (codes " " ++ (ws ++ 10 ∷ []))
 
 -- a word, a dispatch and a section
-abbrev pub named_words : List ℕ → ReportEntry → List ℕ
-named_words word x = word ++ (codes " " ++ (decimal x.dispatch ++ (codes " " ++ decimal x.section)))
+abbrev pub entry_words : List ℕ → ReportEntry → List ℕ
+entry_words word x =
+    word ++ (codes " " ++ (decimal x.dispatch ++ (codes " " ++ decimal x.section)))
 
 -- a printed line for each of the named
-abbrev pub named_lines : ℕ → List ℕ → List ReportEntry → List ℕ
-named_lines number word [] = []
-named_lines number word (x ∷ xs) = printed_line number (named_words word x) ++ named_lines number word xs
+abbrev pub entry_lines : ℕ → List ℕ → List ReportEntry → List ℕ
+entry_lines number word xs = flat_map (λ x. printed_line number (entry_words word x)) xs
+
+-- the printed lines of the recalled, then those of the woken
+abbrev pub report_lines : ℕ → List ReportEntry → List ReportEntry → List ℕ
+report_lines number recalls wakes =
+    entry_lines number (codes "recall") recalls ++ entry_lines number (codes "wake") wakes
 
 -- all that is printed for a line: the reply, then the recalled, then the woken
 unfoldable pub printed : ℕ → Reply → List ReportEntry → List ReportEntry → List ℕ
 printed number reply recalls wakes =
-    printed_line number (words reply) ++ (named_lines number (codes "recall") recalls ++ named_lines number (codes "wake") wakes)
+    printed_line number (words reply) ++ report_lines number recalls wakes
 
 -- a fault of the line layer is a line fault, any other is a refusal
 abbrev pub fault_reply : Layer → ℕ → ℕ → Reply
@@ -51,15 +57,18 @@ reply_to (result.Ok a) = answer (answer_of (result.Ok a))
 reply_to (result.Err f) = fault_reply (fault_layer f) (fault_number f) (fault_place f)
 
 -- numbers beside sections
-abbrev pub names : List ℕ → List ℕ → List ReportEntry
-names [] ss = []
-names (d ∷ ds) [] = []
-names (d ∷ ds) (s ∷ ss) = record { dispatch = d; section = s } ∷ names ds ss
+abbrev pub entries : List ℕ → List ℕ → List ReportEntry
+entries [] ss = []
+entries (d ∷ ds) [] = []
+entries (d ∷ ds) (s ∷ ss) = record { dispatch = d; section = s } ∷ entries ds ss
 
 -- the recalled that a report names: the first places
-abbrev pub named_recalled : Report → List ReportEntry
-named_recalled r = names (take r.recalled r.dispatches) (take r.recalled r.sections)
+abbrev pub recalled_entries : Report → List ReportEntry
+recalled_entries r =
+    entries (take r.recalled r.dispatches) (take r.recalled r.sections)
 
 -- the woken that a report names: the places after those
-abbrev pub named_woken : Report → List ReportEntry
-named_woken r = names (take r.woken (drop r.recalled r.dispatches)) (take r.woken (drop r.recalled r.sections))
+abbrev pub woken_entries : Report → List ReportEntry
+woken_entries r =
+    entries
+    (take r.woken (drop r.recalled r.dispatches)) (take r.woken (drop r.recalled r.sections))

@@ -8,34 +8,34 @@ use book::answer::Refusal;
 use std::error::Error;
 use std::fmt;
 
-// Where a fault was found.
+/// Where a fault was found.
 #[derive(Clone, Copy, Debug, PartialEq, Eq)]
 pub enum Layer {
-    // in the form of the line
+    /// In the form of the line.
     Line,
-    // by the use table
+    /// By the use table.
     UseTable,
-    // by the book
+    /// By the book.
     Book,
 }
 
-// Why a line was not carried out.
+/// Why a line was not carried out.
 #[derive(Clone, Copy, Debug, PartialEq, Eq)]
 pub enum Fault {
-    // the line is number 1000000
+    /// The line is number 1000000.
     TooManyLines,
-    // the line has over 32 bytes
+    /// The line has over 32 bytes.
     TooLong,
-    // no call letter stands first
+    /// No call letter stands first.
     NoLetter,
-    // no correct line goes on at the place, a byte of the line, from 1
+    /// No correct line goes on at the place, a byte of the line, from 1.
     WrongForm { place: u8 },
-    // the call of the line was refused
+    /// The call of the line was refused.
     Refused(Refusal),
 }
 
 impl Fault {
-    // Its number: 1 to 10 for a refusal, 41 to 44 for a line.
+    /// Its number: 1 to 10 for a refusal, 41 to 44 for a line.
     pub fn number(self) -> u8
         ensures { result ≡ fault_number self }
     {
@@ -48,7 +48,7 @@ impl Fault {
         }
     }
 
-    // Where it is: of a line, the byte, from 1; of a refusal, the field, from 1.
+    /// Where it is: of a line, the byte, from 1; of a refusal, the field, from 1.
     pub fn place(self) -> u8
         ensures { result ≡ fault_place self }
     {
@@ -60,7 +60,7 @@ impl Fault {
         }
     }
 
-    // Where it was found.
+    /// Where it was found.
     pub fn layer(self) -> Layer
         ensures { result ≡ fault_layer self }
     {
@@ -72,7 +72,6 @@ impl Fault {
 }
 
 // The field that a refusal concerns, from 1.
-// Kept: a number, since `Fault::place` gives it where a line fault has the place of a byte.
 fn field_of(refusal: Refusal) -> u8
     ensures { result ≡ field refusal }
 {

@@ -1,10 +1,7 @@
 // The fields of a line.
-ghost use Rattle.std.specs.Prelude.{◌≡◌, ◌+◌, ◌≤◌, length, MatchResult};
-ghost use Rattle.std.specs.Char.{is_ascii_digit};
-ghost use Rattle.std.specs.List.{prefix_len};
-ghost use Rattle.std.specs.Str.Parse.{AllDigits, digits_value};
-ghost use Rattle.protocol.specs.Fields.{DigitFirst, most_digits, Counts, Takes, TakesField, NoField, WrongFields};
-ghost use Rattle.protocol.specs.Form.{Fields};
+ghost use Rattle.std.specs.Prelude.{◌≡◌, ◌+◌, ◌≤◌, length, take};
+ghost use Rattle.std.specs.Str.Parse.{digits_value};
+ghost use Rattle.protocol.specs.Fields.{most_digits, Counts, TakesNumber, TakesOneField, ReadsFields};
 ghost use Rattle.protocol.specs.declared.fault.Fault.TheVariants.{WrongForm};
 
 use crate::fault::Fault;
@@ -29,13 +26,13 @@ impl Cursor<'_> {
 
     // Takes the digits of a field from the front of the rest.
     fn take_number(&mut self) -> Result<u32, Fault>
-        ensures { MatchResult result (λ n. Takes self.old.rest.now self.old.place n self.new.rest.now self.new.place) (λ e. (e ≡ WrongForm self.old.place) × (DigitFirst self.old.rest.now → ⊥)) }
+        ensures { TakesNumber self.old.rest.now self.old.place result
+            self.new.rest.now self.new.place }
     {
-        let count = count_digits(self.rest);
+        let (count, number) = leading_number(self.rest);
         if count == 0 {
             return Err(self.wrong_form());
         }
-        let number = value_of(&self.rest[..count]);
         self.rest = &self.rest[count..];
         self.place += count as u8;
         Ok(number)
@@ -43,7 +40,8 @@ impl Cursor<'_> {
 
     // Takes a field from the front of the rest: a space, and digits.
     fn take_field(&mut self) -> Result<u32, Fault>
-        ensures { MatchResult result (λ n. TakesField self.old.rest.now self.old.place n self.new.rest.now self.new.place) (λ e. NoField self.old.rest.now self.old.place e) }
+        ensures { TakesOneField self.old.rest.now self.old.place result
+            self.new.rest.now self.new.place }
     {
         match self.rest {
             [b' ', rest @ ..] => {
@@ -57,7 +55,7 @@ impl Cursor<'_> {
 }
 
 // The most digits of a field.
-const MOST: usize = 6;
+const MOST_DIGITS: usize = 6;
 
 // The most digits that a field has at the front of a text: a leading 0 stands alone.
 fn most_digits(text: &[u8]) -> usize
@@ -65,42 +63,33 @@ fn most_digits(text: &[u8]) -> usize
 {
     match text {
         [b'0', ..] => 1,
-        _ => MOST,
+        _ => MOST_DIGITS,
     }
 }
 
-// How many digits stand at the front of a text.
-fn leading_digits(text: &[u8]) -> usize
-    ensures { result ≡ prefix_len is_ascii_digit text.now }
+// The field at the front of a text: how many digits it has, and the number that they write. It has
+// none where no field begins.
+fn leading_number(text: &[u8]) -> (usize, u32)
+    ensures counted { Counts text.now result.0 }
+    ensures value { result.1 ≡ digits_value 10 (take result.0 text.now) }
 {
-    text.iter().take_while(|byte| byte.is_ascii_digit()).count()
-}
-
-// How many digits a field has at the front of a text: none where no field begins.
-fn count_digits(text: &[u8]) -> usize
-    ensures { Counts text.now result }
-{
-    leading_digits(text).min(most_digits(text))
-}
-
-// The number that digits write.
-// Kept: a loop, since a `fold` would have to know at each of its calls that the digits so far write
-// a small number, and its closure sees the number alone.
-fn value_of(digits: &[u8]) -> u32
-    requires { (AllDigits 10 digits.now) × (length digits.now ≤ 6) }
-    ensures { result ≡ digits_value 10 digits.now }
-{
+    let most = most_digits(text).min(text.len());
     let mut number = 0;
-    for digit in digits {
-        number = number * 10 + u32::from(*digit - b'0');
+    for count in 0..most {
+        let byte = text[count];
+        if !byte.is_ascii_digit() {
+            return (count, number);
+        }
+        number = number * 10 + u32::from(byte - b'0');
     }
-    number
+    (most, number)
 }
 
 // Reads N fields, which stand from the second place of the line to its end.
+#[inline(always)]
 pub(crate) fn read_numbers<const N: usize>(text: &[u8]) -> Result<[u32; N], Fault>
     requires { length text.now ≤ 31 }
-    ensures { MatchResult result (λ ns. (length ns ≡ N) × Fields ns text.now) (λ e. WrongFields N text.now e) }
+    ensures { ReadsFields N text.now result }
 {
     let mut cursor = Cursor {
         rest: text,

@@ -6,14 +6,16 @@ use crate::fault::Fault;
 use crate::field::read_numbers;
 use model::call::Call;
 
-// The most bytes that a line may have.
-const LONGEST: usize = 32;
+/// The most bytes that a line may have, its byte 10 not counted.
+pub const LONGEST_LINE: usize = 32;
 
-// Reads a line, without its byte 10, as a call.
+/// Reads a line, without its byte 10, as a call. Any other line is a fault: it is too long, begins
+/// with no call letter, or has a wrong form.
+#[inline(always)]
 pub fn read_call(line: &[u8]) -> Result<Call, Fault>
     ensures { Reading line.now result }
 {
-    if line.len() > LONGEST {
+    if line.len() > LONGEST_LINE {
         return Err(Fault::TooLong);
     }
     match line {
@@ -23,6 +25,7 @@ pub fn read_call(line: &[u8]) -> Result<Call, Fault>
 }
 
 // Reads the fields behind a letter. The letter chooses the call.
+#[inline(always)]
 fn read_fields(letter: char, fields: &[u8]) -> Result<Call, Fault>
     requires { length fields.now ≤ 31 }
     ensures { Reading (letter ∷ fields.now) result }

@@ -1,18 +1,18 @@
 // The printed bytes of an outcome.
-// Kept: the number of a line and `out` are passed side by side, since a struct of both would borrow
-// `out`, and contracts would then speak of what is lent.
 ghost use Rattle.std.specs.Prelude.{◌≡◌, ◌≤◌, length, Err};
-ghost use Rattle.text_buffer.specs.Text.{put_behind};
-ghost use Rattle.protocol.specs.Words.{words, printed_line, named_words, named_lines, names, printed, reply_to, named_recalled, named_woken};
+ghost use Rattle.text_buffer.specs.TextBuffer.{put_behind};
+ghost use Rattle.text_buffer.specs.declared.TheConstants.{ROOM};
+ghost use Rattle.protocol.specs.Words.{words, printed_line, entry_words, entry_lines, entries, report_lines, printed, reply_to, recalled_entries, woken_entries};
 
 use crate::fault::{Fault, Layer};
 use book::answer::Answer;
+use model::limits::DISPATCHES;
 use model::report::{Report, ReportEntry};
-use text_buffer::place::Printed;
+use text_buffer::TextBuffer;
 
 // Puts the words of a fault: a fault of the line says its place, any other is a refusal.
-// Kept: beside the `Display` of `Fault`, for the reason that stands at `Printed::put_number`.
-fn put_fault(fault: Fault, out: &mut Printed)
+// `write!` would not do: its contract says nothing of what was written where room lacks.
+fn put_fault(fault: Fault, out: &mut TextBuffer)
     ensures puts { out.new ≡ put_behind out.old (words (reply_to (Err fault))) }
     ensures short { length (words (reply_to (Err fault))) ≤ 16 }
 {
@@ -31,7 +31,8 @@ fn put_fault(fault: Fault, out: &mut Printed)
 }
 
 // Puts the printed line of a reply.
-fn put_reply(number: u32, outcome: Result<Answer, Fault>, out: &mut Printed)
+#[inline(always)]
+fn put_reply(number: u32, outcome: Result<Answer, Fault>, out: &mut TextBuffer)
     ensures puts { out.new ≡ put_behind out.old (printed_line number (words (reply_to outcome))) }
     ensures short { length (printed_line number (words (reply_to outcome))) ≤ 28 }
 {
@@ -45,8 +46,8 @@ fn put_reply(number: u32, outcome: Result<Answer, Fault>, out: &mut Printed)
 }
 
 // Puts the printed line of one that a report names.
-fn put_name(number: u32, word: &[u8], named: ReportEntry, out: &mut Printed)
-    ensures { out.new ≡ put_behind out.old (printed_line number (named_words word.now named)) }
+fn put_name(number: u32, word: &[u8], named: ReportEntry, out: &mut TextBuffer)
+    ensures { out.new ≡ put_behind out.old (printed_line number (entry_words word.now named)) }
 {
     out.put_number(number);
     out.put(b' ');
@@ -59,10 +60,10 @@ fn put_name(number: u32, word: &[u8], named: ReportEntry, out: &mut Printed)
 }
 
 // Puts a printed line for each of the dispatches, with its section beside it.
-// Kept: two slices, as the report has two arrays.
-fn put_names(number: u32, word: &[u8], dispatches: &[u8], sections: &[u16], out: &mut Printed)
-    requires { length out.old ≤ 2048 }
-    ensures { out.new ≡ put_behind out.old (named_lines number word.now (names dispatches.now sections.now)) }
+fn put_names(number: u32, word: &[u8], dispatches: &[u8], sections: &[u16], out: &mut TextBuffer)
+    requires { length out.old ≤ ROOM }
+    ensures { out.new ≡ put_behind out.old
+        (entry_lines number word.now (entries dispatches.now sections.now)) }
 {
     for (dispatch, section) in dispatches.iter().zip(sections.iter()) {
         let named = ReportEntry {
@@ -73,20 +74,16 @@ fn put_names(number: u32, word: &[u8], dispatches: &[u8], sections: &[u16], out:
     }
 }
 
-// Prints what a line gave, in the place of what was printed before: the reply, then the recalled,
-// then the woken, each after the number of the line.
-pub fn print_outcome(
-    number: u32,
-    outcome: Result<Answer, Fault>,
-    report: &Report,
-    out: &mut Printed,
-)
-    ensures { out.new ≡ printed number (reply_to outcome) (named_recalled report.now) (named_woken report.now) }
+// Puts a printed line for each that a report names: the recalled, then the woken.
+fn put_report(number: u32, report: &Report, out: &mut TextBuffer)
+    requires { length out.old ≤ ROOM }
+    ensures puts { out.new ≡ put_behind out.old
+        (report_lines number (recalled_entries report.now) (woken_entries report.now)) }
+    ensures short {
+        length (report_lines number (recalled_entries report.now) (woken_entries report.now)) ≤ 1792 }
 {
-    let recalled = (report.recalled as usize).min(64);
-    let named = (recalled + report.woken as usize).min(64);
-    out.clear();
-    put_reply(number, outcome, out);
+    let recalled = (report.recalled as usize).min(DISPATCHES);
+    let named = (recalled + report.woken as usize).min(DISPATCHES);
     put_names(
         number,
         b"recall",
@@ -101,4 +98,23 @@ pub fn print_outcome(
         &report.sections[recalled..named],
         out,
     );
+}
+
+/// Prints what a line gave, in the place of what was printed before: the reply, then the recalled,
+/// then the woken, each after the number of the line. All of it fits.
+#[inline(always)]
+pub fn print_outcome(
+    number: u32,
+    outcome: Result<Answer, Fault>,
+    report: &Report,
+    out: &mut TextBuffer,
+)
+    ensures { out.new ≡ printed number (reply_to outcome)
+        (recalled_entries report.now) (woken_entries report.now) }
+{
+    out.clear();
+    put_reply(number, outcome, out);
+    if report.recalled > 0 || report.woken > 0 {
+        put_report(number, report, out);
+    }
 }

@@ -1,36 +1,48 @@
 -- What a console has gathered of a piece, before the line that has begun comes to its end.
-use Rattle.std.proofs.Common.{◌≡◌, ℕ, ◌+◌, ◌<◌, Bool, true, false, not, cond, ltb, ◌==◌, Some, None, unwrap_or, List, [], ◌∷◌, ◌++◌, length, get_or, take, sym, refl, ap, ◌∙◌, subst, append_assoc, append-nil, arith}
+use Rattle.std.proofs.Common.{◌≡◌, ℕ, ◌+◌, ◌<◌, Bool, true, false, not, cond, ltb, ◌==◌, Some, None, Option, unwrap_or, List, [], ◌∷◌, ◌++◌, length, get_or, take, sym, refl, ap, ◌∙◌, subst, append_assoc, append-nil, arith}
 use Rattle.std.specs.List.{position_or_len}
 use Rattle.std.proofs.lemmas.List.{length-take, take_more, nil_from_length}
-use Rattle.std.proofs.lemmas.List.Sums.{prefix_len-le-length, passes_at_first}
+use Rattle.std.proofs.lemmas.List.Sums.{prefix_len-le-length, passes_at_first, position_or_len_is}
+use Rattle.memchr.specs.Find.{IsFirstByte, is_byte}
 use Rattle.std.proofs.lemmas.Bool.Decides.{nat_tests}
 use Rattle.uses.specs.Relations.{Relations}
+use Rattle.model.specs.State.{State}
 use Rattle.model.specs.Recalling.{Order}
 use Rattle.model.specs.declared.state.Detection.{Detection}
 use Rattle.book.specs.Tables.{state}
 use Rattle.book.specs.declared.book.Book.{Book}
-use Rattle.session.specs.Inputs.{Lines, more, Unbroken, Cut, with_rest, line_length}
-use Rattle.session.specs.Stands.{HasAnswered, HasRead, AnswersLine, EndsLines, Finishes}
+use Rattle.session.specs.Inputs.{Lines, more, IsUnbroken, Cut, with_rest, line_length}
+use Rattle.session.specs.Transcript.{AnswersLines}
+use Rattle.session.specs.Stands.{HasAnswered, HasRead, AnswersLine, EndsLine, EndsLines, Finishes}
 use Rattle.session.specs.declared.console.Console.{Console}
 use Rattle.session.proofs.Cutting.{cut_more, cut_end}
-use Rattle.session.proofs.Standing.{bytes_kept}
+use Rattle.session.proofs.Standing.{bytes_kept, kept_more, take_again}
 
 -- byte 10
 abbrev pub is_end : ℕ → Bool
 is_end b = b == 10
 
 -- no byte 10 stands before the first
-pub unbroken_before : (piece : List ℕ) → Unbroken (take (position_or_len is_end piece) piece)
+pub unbroken_before : (piece : List ℕ) → IsUnbroken (take (position_or_len is_end piece) piece)
 unbroken_before [] = refl
 unbroken_before (b ∷ bs) = by_first (is_end b) refl (unbroken_before bs)
   where
-    by_first : (t : Bool) → is_end b ≡ t → Unbroken (take (position_or_len is_end bs) bs) → Unbroken (take (cond (not (is_end b)) (1 + position_or_len is_end bs) 0) (b ∷ bs))
+    by_first : (t : Bool) → is_end b ≡ t → IsUnbroken (take (position_or_len is_end bs) bs) → IsUnbroken (take (cond (not (is_end b)) (1 + position_or_len is_end bs) 0) (b ∷ bs))
     by_first true e whole = rw e refl
     by_first false e whole = rw e (grind (arith, nat_tests, e, whole))
 
--- the first byte 10 as `position` finds it, or the length
-pub first_or_length : (piece : List ℕ) → unwrap_or (cond (ltb (position_or_len is_end piece) (length piece)) (Some (position_or_len is_end piece)) None) (length piece) ≡ position_or_len is_end piece
-first_or_length piece = let h = prefix_len-le-length (λ b. not (is_end b)) piece in grind (arith, nat_tests, h)
+-- a test that is not true is false
+not_true : (b : Bool) → ¬ (b ≡ true) → b ≡ false
+not_true true h = absurd (h refl)
+not_true false h = refl
+
+-- the first byte 10 as a search finds it, or the length
+pub first_end : (piece : List ℕ) (r : Option ℕ) → IsFirstByte (is_byte 10) piece r → unwrap_or r (length piece) ≡ position_or_len is_end piece
+first_end piece None none =
+    sym (position_or_len_is is_end piece (length piece) 0 (omega arith) (λ k inside. not_true _ (none k (omega arith) inside)) (λ past. absurd (let e : ⊥ = omega arith in e)))
+first_end piece (Some k) found =
+    let inside = found.0.high in
+    sym (position_or_len_is is_end piece k 0 (omega arith) (λ i less. not_true _ (found.0.before i (omega arith) less)) (λ _. found.1))
 
 -- the bytes that belong to the line are those before the first byte 10, and byte 10
 line_length_is : (piece : List ℕ) → line_length piece ≡ cond (ltb (position_or_len is_end piece) (length piece)) (position_or_len is_end piece + 1) (position_or_len is_end piece)
@@ -54,7 +66,7 @@ pub record Gathered {T O : Type 0} {tm : _} (first now : Console T O tm) (piece 
   pub same_book : now.book ≡ first.book
   pub same_count : now.answered ≡ first.answered
   pub kept : now.line ≡ take 33 (first.line ++ take n piece)
-  pub unbroken : Unbroken (take n piece)
+  pub unbroken : IsUnbroken (take n piece)
 
 -- where the console stands that has gathered bytes
 stands_gathered : {T O : Type 0} {tm : _} (u : Relations) (o : Order) (detection : Detection) (ended : Lines) (rest text : List ℕ) (first now : Console T O tm) (piece : List ℕ) (n : ℕ) → Gathered first now piece n → HasAnswered u o detection ended rest text first → HasAnswered u o detection ended (rest ++ take n piece) text now
@@ -73,18 +85,38 @@ read_gathered u o detection input before text first now piece n g none h = recor
     same : before ++ text ≡ before
     same = ap (λ (xs : List ℕ). before ++ xs) none ∙ append-nil before
 
+-- a line that lies whole in the bytes was answered
+pub ends_whole : {T O : Type 0} {tm : _} (m : T → Relations) (p : O → Order) (text bytes : List ℕ) (now next : Console T O tm) → length now.line ≡ 0 → AnswersLine m p now next bytes text → EndsLine m p now next bytes text
+ends_whole m p text bytes now next none answers detection ended rest before h =
+    rw empty (answers detection ended bytes before refl (rw empty at h))
+  where
+    empty : rest ≡ []
+    empty = nil_from_length rest (omega (arith, none, ap length h.kept, length-take 33 rest))
+
+-- a line whose bytes were gathered was answered
+pub ends_gathered : {T O : Type 0} {tm : _} (m : T → Relations) (p : O → Order) (text bytes line : List ℕ) (now mid next : Console T O tm) → line ≡ take 33 (now.line ++ bytes) → mid.book ≡ now.book → mid.answered ≡ now.answered → mid.line ≡ [] → AnswersLine m p mid next line text → EndsLine m p now next bytes text
+ends_gathered {T} {O} {tm} m p text bytes line now mid next is same counts anew answers detection ended rest before h =
+    here detection ended (rest ++ bytes) before first (record {
+      answered = subst (λ (s : State). AnswersLines (m now.book.policy.table) (p now.book.policy.order) detection ended before s) (sym (ap (λ (b : Book T O tm). state b.tables) same)) h.answered;
+      counted = counts ∙ h.counted;
+      kept = anew;
+    })
+  where
+    first : take 33 line ≡ take 33 (rest ++ bytes)
+    first = ap (λ (xs : List ℕ). take 33 xs) (is ∙ kept_more now.line rest bytes h.kept) ∙ take_again 33 (rest ++ bytes)
+
+    here : (detection : Detection) (ended : Lines) (whole before : List ℕ) → take 33 line ≡ take 33 whole → HasAnswered (m now.book.policy.table) (p now.book.policy.order) detection ended [] before mid → HasAnswered (m now.book.policy.table) (p now.book.policy.order) detection (more ended whole) [] (before ++ text) next
+    here = subst (λ (k : Book T O tm). (detection : Detection) (ended : Lines) (whole before : List ℕ) → take 33 line ≡ take 33 whole → HasAnswered (m k.policy.table) (p k.policy.order) detection ended [] before mid → HasAnswered (m k.policy.table) (p k.policy.order) detection (more ended whole) [] (before ++ text) next) same answers
+
 -- the line has ended: its bytes were read, and its answer was printed
-pub read_line : {T O : Type 0} {tm : _} (m : T → Relations) (p : O → Order) (detection : Detection) (input before text : List ℕ) (first now next : Console T O tm) (piece : List ℕ) (n : ℕ) → Gathered first now piece n → n < length piece → get_or piece n 0 ≡ 10 → AnswersLine m p now next text → HasRead (m first.book.policy.table) (p first.book.policy.order) detection input before first → HasRead (m first.book.policy.table) (p first.book.policy.order) detection (input ++ take (n + 1) piece) (before ++ text) next
-read_line {T} {O} {tm} m p detection input before text first now next piece n g inside ten answers h = record {
+pub line_read : {T O : Type 0} {tm : _} (m : T → Relations) (p : O → Order) (detection : Detection) (input before text : List ℕ) (first next : Console T O tm) (piece : List ℕ) (n : ℕ) → IsUnbroken (take n piece) → n < length piece → get_or piece n 0 ≡ 10 → EndsLine m p first next (take n piece) text → HasRead (m first.book.policy.table) (p first.book.policy.order) detection input before first → HasRead (m first.book.policy.table) (p first.book.policy.order) detection (input ++ take (n + 1) piece) (before ++ text) next
+line_read m p detection input before text first next piece n unbroken inside ten ends h = record {
   ended = more h.ended (h.rest ++ take n piece);
   rest = [];
-  cut = subst (λ (xs : List ℕ). Cut xs (more h.ended (h.rest ++ take n piece)) []) joined_up (cut_end (input ++ take n piece) h.ended (h.rest ++ take n piece) (cut_more input h.ended h.rest (take n piece) h.cut g.unbroken));
-  stands = here detection h.ended (h.rest ++ take n piece) before (stands_gathered (m first.book.policy.table) (p first.book.policy.order) detection h.ended h.rest before first now piece n g h.stands);
+  cut = subst (λ (xs : List ℕ). Cut xs (more h.ended (h.rest ++ take n piece)) []) joined_up (cut_end (input ++ take n piece) h.ended (h.rest ++ take n piece) (cut_more input h.ended h.rest (take n piece) h.cut unbroken));
+  stands = ends detection h.ended h.rest before h.stands;
 }
   where
-    here : (detection : Detection) (ended : Lines) (rest before : List ℕ) → HasAnswered (m first.book.policy.table) (p first.book.policy.order) detection ended rest before now → HasAnswered (m first.book.policy.table) (p first.book.policy.order) detection (more ended rest) [] (before ++ text) next
-    here = subst (λ (k : Book T O tm). (detection : Detection) (ended : Lines) (rest before : List ℕ) → HasAnswered (m k.policy.table) (p k.policy.order) detection ended rest before now → HasAnswered (m k.policy.table) (p k.policy.order) detection (more ended rest) [] (before ++ text) next) g.same_book answers
-
     longer : take (n + 1) piece ≡ take n piece ++ 10 ∷ []
     longer = subst (λ (x : ℕ). take (n + 1) piece ≡ take n piece ++ x ∷ []) ten (take_more piece n 0 inside)
 
@@ -92,8 +124,9 @@ read_line {T} {O} {tm} m p detection input before text first now next piece n g 
     joined_up = append_assoc input (take n piece) (10 ∷ []) ∙ ap (λ (xs : List ℕ). input ++ xs) (sym longer)
 
 -- the input has ended with a line that has begun
-pub ends_line : {T O : Type 0} {tm : _} (m : T → Relations) (p : O → Order) (text : List ℕ) (now next : Console T O tm) → 0 < length now.line → AnswersLine m p now next text → EndsLines m p now next text
-ends_line m p text now next some answers detection ended rest before h = rw (is_line rest begun) (answers detection ended rest before h)
+pub ends_line : {T O : Type 0} {tm : _} (m : T → Relations) (p : O → Order) (text : List ℕ) (now next : Console T O tm) → 0 < length now.line → EndsLine m p now next [] text → EndsLines m p now next text
+ends_line m p text now next some ends detection ended rest before h =
+    rw (is_line rest begun) (rw (append-nil rest) at (ends detection ended rest before h))
   where
     begun : 0 < length rest
     begun = omega (arith, some, ap length h.kept, length-take 33 rest)

@@ -1,5 +1,5 @@
 -- The first 33 bytes of a line say what it is read as.
-use Rattle.std.proofs.Common.{◌≡◌, ℕ, ◌≤◌, List, length, take, Ok, Err, Result, subst, arith}
+use Rattle.std.proofs.Common.{◌≡◌, ℕ, ◌≤◌, List, length, take, Ok, Err, Result, sym, subst, arith}
 use Rattle.std.proofs.lemmas.List.{length-take, take_all}
 use Rattle.uses.specs.Relations.{Relations}
 use Rattle.model.specs.State.{State}
@@ -23,8 +23,19 @@ reading_kept line _ (no_letter few h) = subst (λ (l : List ℕ). Reading l (Err
 reading_kept line _ (wrong_form few h place f) = subst (λ (l : List ℕ). Reading l (Err (WrongForm place))) (kept_all line few) (wrong_form few h place f)
 reading_kept line _ (correct few c h) = subst (λ (l : List ℕ). Reading l (Ok c)) (kept_all line few) (correct few c h)
 
--- so what they give, the line gives
-pub gives_kept : (u : Relations) (o : Order) (number : ℕ) (s : State) (line : List ℕ) (reply : Reply) (recalls wakes : List ReportEntry) (t : State) → Gives u o number s (take 33 line) reply recalls wakes t → Gives u o number s line reply recalls wakes t
-gives_kept u o number s line _ _ _ _ (too_many is) = too_many is
-gives_kept u o number s line _ _ _ _ (faulty below f r) = faulty below f (reading_kept line (Err f) r)
-gives_kept u o number s line _ _ _ _ (carried below c r) = carried below c (reading_kept line (Ok c) r)
+-- what a line is read as, its first 33 bytes are read as
+reading_cut : (line : List ℕ) (r : Result Call Fault) → Reading line r → Reading (take 33 line) r
+reading_cut line _ (too_long many) = too_long (omega (arith, many, length-take 33 line))
+reading_cut line _ (no_letter few h) = subst (λ (l : List ℕ). Reading l (Err NoLetter)) (sym (take_all 33 line (omega arith))) (no_letter few h)
+reading_cut line _ (wrong_form few h place f) = subst (λ (l : List ℕ). Reading l (Err (WrongForm place))) (sym (take_all 33 line (omega arith))) (wrong_form few h place f)
+reading_cut line _ (correct few c h) = subst (λ (l : List ℕ). Reading l (Ok c)) (sym (take_all 33 line (omega arith))) (correct few c h)
+
+-- lines with the same first 33 bytes are read alike
+reading_same : (first line : List ℕ) (r : Result Call Fault) → take 33 first ≡ take 33 line → Reading first r → Reading line r
+reading_same first line r same h = reading_kept line r (subst (λ (l : List ℕ). Reading l r) same (reading_cut first r h))
+
+-- so they give the same
+pub gives_same : (u : Relations) (o : Order) (number : ℕ) (s : State) (first line : List ℕ) (reply : Reply) (recalls wakes : List ReportEntry) (t : State) → take 33 first ≡ take 33 line → Gives u o number s first reply recalls wakes t → Gives u o number s line reply recalls wakes t
+gives_same u o number s first line _ _ _ _ same (too_many is) = too_many is
+gives_same u o number s first line _ _ _ _ same (faulty below f r) = faulty below f (reading_same first line (Err f) same r)
+gives_same u o number s first line _ _ _ _ same (carried below c r) = carried below c (reading_same first line (Ok c) same r)

@@ -3,10 +3,10 @@ use Rattle.std.proofs.Common.{◌≡◌, ℕ, ◌+◌, ◌-◌, ◌≤◌, List,
 use Rattle.std.proofs.lemmas.List.{length-map, map-append, take-take, take_at, drop_at, drop-take}
 use Rattle.model.specs.Calls.{places, report_of}
 use Rattle.model.specs.declared.report.ReportEntry.{ReportEntry}
-use Rattle.protocol.specs.Words.{names, named_recalled, named_woken}
+use Rattle.protocol.specs.Words.{entries, recalled_entries, woken_entries}
 
 -- numbers and sections of a list, beside each other again
-names_map : (xs : List ReportEntry) → names (map (λ x. x.dispatch) xs) (map (λ x. x.section) xs) ≡ xs
+names_map : (xs : List ReportEntry) → entries (map (λ x. x.dispatch) xs) (map (λ x. x.section) xs) ≡ xs
 names_map [] = refl
 names_map (x ∷ xs) = ap (λ (ys : List ReportEntry). x ∷ ys) (names_map xs)
 
@@ -38,13 +38,13 @@ behind f unused xs ys fits =
     whole = omega (arith, fits)
 
 -- the recalled
-pub recalled_filled : (xs ys : List ReportEntry) → length xs + length ys ≤ 64 → named_recalled (report_of xs ys) ≡ xs
+pub recalled_filled : (xs ys : List ReportEntry) → length xs + length ys ≤ 64 → recalled_entries (report_of xs ys) ≡ xs
 recalled_filled xs ys fits =
-    ap (λ (ns : List ℕ). names ns (take (length xs) (places 65535 (map (λ x. x.section) (xs ++ ys))))) (front (λ x. x.dispatch) 255 xs ys fits)
-    ∙ (ap (λ (ns : List ℕ). names (map (λ x. x.dispatch) xs) ns) (front (λ x. x.section) 65535 xs ys fits) ∙ names_map xs)
+    ap (λ (ns : List ℕ). entries ns (take (length xs) (places 65535 (map (λ x. x.section) (xs ++ ys))))) (front (λ x. x.dispatch) 255 xs ys fits)
+    ∙ (ap (λ (ns : List ℕ). entries (map (λ x. x.dispatch) xs) ns) (front (λ x. x.section) 65535 xs ys fits) ∙ names_map xs)
 
 -- the woken
-pub woken_filled : (xs ys : List ReportEntry) → length xs + length ys ≤ 64 → named_woken (report_of xs ys) ≡ ys
+pub woken_filled : (xs ys : List ReportEntry) → length xs + length ys ≤ 64 → woken_entries (report_of xs ys) ≡ ys
 woken_filled xs ys fits =
-    ap (λ (ns : List ℕ). names ns (take (length ys) (drop (length xs) (places 65535 (map (λ x. x.section) (xs ++ ys)))))) (behind (λ x. x.dispatch) 255 xs ys fits)
-    ∙ (ap (λ (ns : List ℕ). names (map (λ x. x.dispatch) ys) ns) (behind (λ x. x.section) 65535 xs ys fits) ∙ names_map ys)
+    ap (λ (ns : List ℕ). entries ns (take (length ys) (drop (length xs) (places 65535 (map (λ x. x.section) (xs ++ ys)))))) (behind (λ x. x.dispatch) 255 xs ys fits)
+    ∙ (ap (λ (ns : List ℕ). entries (map (λ x. x.dispatch) ys) ns) (behind (λ x. x.section) 65535 xs ys fits) ∙ names_map ys)

@@ -13,7 +13,7 @@ use Rattle.protocol.specs.Words.{Reply, answer, fault, printed}
 use Rattle.protocol.specs.declared.fault.Fault.{Fault}
 use Rattle.protocol.proofs.OneReading.{reading_unique}
 use Rattle.session.specs.Inputs.{Lines, count, with_rest}
-use Rattle.session.specs.Transcript.{Gives, too_many, faulty, carried, Turn, is_read, is_past, Answered, nothing, then_line}
+use Rattle.session.specs.Transcript.{Gives, too_many, faulty, carried, Turn, is_read, is_past, AnswersLines, nothing, then_line}
 use Rattle.session.specs.Theorems.{TranscriptUnique}
 use Rattle.session.proofs.OneCut.{cut_once}
 
@@ -57,7 +57,7 @@ turn_once once u o n s line _ _ _ _ (is_past late) (is_read {reply = p} {recalls
 turn_once once u o n s line _ _ _ _ (is_past _) (is_past _) = (refl, refl)
 
 -- all lines together
-answered_once : (once : ReadsOnce) (u : Relations) (o : Order) (detection : Detection) (ls : Lines) (one other : List ℕ) (t r : State) → Answered u o detection ls one t → Answered u o detection ls other r → (one ≡ other) × (t ≡ r)
+answered_once : (once : ReadsOnce) (u : Relations) (o : Order) (detection : Detection) (ls : Lines) (one other : List ℕ) (t r : State) → AnswersLines u o detection ls one t → AnswersLines u o detection ls other r → (one ≡ other) × (t ≡ r)
 answered_once once u o detection _ _ _ _ _ nothing nothing = (refl, refl)
 answered_once once u o detection _ _ _ _ _ (then_line {ls = ls} {before = a} {now = b} {s = s} {t = t} {line = line} h turn) (then_line {before = c} {now = d} {s = r} {t = v} k other) =
     let before : (a ≡ c) × (s ≡ r) = answered_once once u o detection ls a c s r h k in
@@ -68,4 +68,4 @@ pub transcript_unique : TranscriptUnique
 transcript_unique u o detection input one other a b =
     let same : (a.ended ≡ b.ended) × (a.rest ≡ b.rest) = cut_once input a.ended b.ended a.rest b.rest a.cut b.cut in
     let lines : with_rest a.ended a.rest ≡ with_rest b.ended b.rest = ap (λ (ls : Lines). with_rest ls a.rest) same.0 ∙ ap (λ (r : List ℕ). with_rest b.ended r) same.1 in
-    (answered_once reading_unique u o detection (with_rest b.ended b.rest) one other a.left b.left (subst (λ (ls : Lines). Answered u o detection ls one a.left) lines a.answered) b.answered).0
+    (answered_once reading_unique u o detection (with_rest b.ended b.rest) one other a.left b.left (subst (λ (ls : Lines). AnswersLines u o detection ls one a.left) lines a.answered) b.answered).0

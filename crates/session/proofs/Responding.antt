@@ -19,20 +19,29 @@ use Rattle.protocol.specs.declared.fault.Fault.{Fault}
 use Rattle.protocol.specs.declared.fault.Fault.TheVariants.{TooManyLines, TooLong, NoLetter, WrongForm, Refused}
 use Rattle.session.specs.Transcript.{Gives, too_many, faulty, carried}
 use Rattle.model.proofs.Exact.{report_fits}
-use Rattle.session.specs.Responses.{Responded}
+use Rattle.session.specs.Responses.{IsRequest, is_last, is_read, Responds}
 
 -- fault 44
-pub last_responded : (u : Relations) (o : Order) (number : ℕ) (s : State) (line : List ℕ) (r : Report) → number ≡ 1000000 → r ≡ report_of [] [] → Responded u o number s line (Err TooManyLines) r s
+last_responded : (u : Relations) (o : Order) (number : ℕ) (s : State) (line : List ℕ) (r : Report) → number ≡ 1000000 → r ≡ report_of [] [] → Responds u o number s line (Err TooManyLines) r s
 last_responded u o number s line r last none = record { recalls = []; wakes = []; reported = none; fits = omega arith; gives = too_many last }
 
 -- another fault of the line
-pub fault_responded : (u : Relations) (o : Order) (number : ℕ) (s : State) (line : List ℕ) (f : Fault) (r : Report) → number < 1000000 → Reading line (Err f) → r ≡ report_of [] [] → Responded u o number s line (Err f) r s
+fault_responded : (u : Relations) (o : Order) (number : ℕ) (s : State) (line : List ℕ) (f : Fault) (r : Report) → number < 1000000 → Reading line (Err f) → r ≡ report_of [] [] → Responds u o number s line (Err f) r s
 fault_responded u o number s line _ r below (too_long many) none =
     record { recalls = []; wakes = []; reported = none; fits = omega arith; gives = faulty below TooLong (too_long many) }
 fault_responded u o number s line _ r below (no_letter few h) none =
     record { recalls = []; wakes = []; reported = none; fits = omega arith; gives = faulty below NoLetter (no_letter few h) }
 fault_responded u o number s line _ r below (wrong_form few h place wrong) none =
     record { recalls = []; wakes = []; reported = none; fits = omega arith; gives = faulty below (WrongForm place) (wrong_form few h place wrong) }
+
+-- a line that is no call
+pub request_responded : (u : Relations) (o : Order) (number : ℕ) (s : State) (line : List ℕ) (f : Fault) (r : Report) → IsRequest number line (Err f) → r ≡ report_of [] [] → Responds u o number s line (Err f) r s
+request_responded u o number s line _ r (is_last last) none = last_responded u o number s line r last none
+request_responded u o number s line f r (is_read below reading) none = fault_responded u o number s line f r below reading none
+
+-- a line that is a call
+pub requested_call : (number : ℕ) (line : List ℕ) (c : Call) → IsRequest number line (Ok c) → (number < 1000000) × Reading line (Ok c)
+requested_call number line c (is_read below reading) = (below, reading)
 
 -- the book's answer or refusal, as it passes up
 abbrev pub passed_up : Result Answer Refusal → Result Answer Fault
@@ -54,7 +63,7 @@ reply_passed_up (Err NoRoom) = refl
 reply_passed_up (Err NotRecalled) = refl
 
 -- the call was carried out
-call_responded : (u : Relations) (o : Order) (number : ℕ) (s : State) (line : List ℕ) (c : Call) (a : Result Answer Refusal) (r : Report) (t : State) → number < 1000000 → Reading line (Ok c) → CarriedOut u o s c a r t → length (step u o s c).recalls + length (step u o s c).wakes ≤ 64 → Responded u o number s line (passed_up a) r t
+call_responded : (u : Relations) (o : Order) (number : ℕ) (s : State) (line : List ℕ) (c : Call) (a : Result Answer Refusal) (r : Report) (t : State) → number < 1000000 → Reading line (Ok c) → CarriedOut u o s c a r t → length (step u o s c).recalls + length (step u o s c).wakes ≤ 64 → Responds u o number s line (passed_up a) r t
 call_responded u o number s line c a r t below reads done fits = record {
   recalls = (step u o s c).recalls;
   wakes = (step u o s c).wakes;
@@ -68,5 +77,5 @@ call_responded u o number s line c a r t below reads done fits = record {
     same = reply_passed_up a ∙ ap answer done.answered
 
 -- the call was carried out in a state of a book
-pub carried_responded : (u : Relations) (o : Order) → OrderLaws o → (number : ℕ) (s : State) → Invariant u s → (line : List ℕ) (c : Call) (a : Result Answer Refusal) (r : Report) (t : State) → number < 1000000 → Reading line (Ok c) → CarriedOut u o s c a r t → Responded u o number s line (passed_up a) r t
+pub carried_responded : (u : Relations) (o : Order) → OrderLaws o → (number : ℕ) (s : State) → Invariant u s → (line : List ℕ) (c : Call) (a : Result Answer Refusal) (r : Report) (t : State) → number < 1000000 → Reading line (Ok c) → CarriedOut u o s c a r t → Responds u o number s line (passed_up a) r t
 carried_responded u o lawful number s i line c a r t below reads done = call_responded u o number s line c a r t below reads done (report_fits u o lawful s i c)

@@ -7,8 +7,8 @@ use Rattle.uses.specs.Relations.{Relations}
 use Rattle.model.specs.State.{State}
 use Rattle.model.specs.Recalling.{Order}
 use Rattle.model.specs.declared.state.Detection.{Detection}
-use Rattle.session.specs.Inputs.{Lines, more, count, Cut, Unbroken, with_rest}
-use Rattle.session.specs.Transcript.{Answered, then_line, is_past, Transcript}
+use Rattle.session.specs.Inputs.{Lines, more, count, Cut, IsUnbroken, with_rest}
+use Rattle.session.specs.Transcript.{AnswersLines, then_line, is_past, Transcript}
 use Rattle.session.specs.Stands.{HasAnswered, HasRead, Reads, Finishes, Serves}
 use Rattle.session.specs.declared.console.Console.{Console}
 use Rattle.session.proofs.Cutting.{cut_more, cut_end}
@@ -16,16 +16,16 @@ use Rattle.session.proofs.Pieces.{reads_on}
 
 module _ (u : Relations) (o : Order) (detection : Detection) where
   -- a line that comes after line 1000000 prints nothing
-  answered_past : (ended : Lines) (line text : List ℕ) (s : State) → 1000000 ≤ count ended → Answered u o detection ended text s → Answered u o detection (more ended line) text s
-  answered_past ended line text s many h = subst (λ (t : List ℕ). Answered u o detection (more ended line) t s) (append-nil text) (then_line h (is_past (omega arith)))
+  answered_past : (ended : Lines) (line text : List ℕ) (s : State) → 1000000 ≤ count ended → AnswersLines u o detection ended text s → AnswersLines u o detection (more ended line) text s
+  answered_past ended line text s many h = subst (λ (t : List ℕ). AnswersLines u o detection (more ended line) t s) (append-nil text) (then_line h (is_past (omega arith)))
 
   -- nor does one that has only begun
-  rest_past : (ended : Lines) (rest text : List ℕ) (s : State) → 1000000 ≤ count ended → Answered u o detection ended text s → Answered u o detection (with_rest ended rest) text s
+  rest_past : (ended : Lines) (rest text : List ℕ) (s : State) → 1000000 ≤ count ended → AnswersLines u o detection ended text s → AnswersLines u o detection (with_rest ended rest) text s
   rest_past ended [] text s many h = h
   rest_past ended (b ∷ bs) text s many h = answered_past ended (b ∷ bs) text s many h
 
   -- so whatever comes after line 1000000, the transcript is what was printed
-  pub transcript_past : (bytes input text : List ℕ) (ended : Lines) (rest : List ℕ) (s : State) → 1000000 ≤ count ended → Cut input ended rest → Answered u o detection ended text s → Transcript u o detection (input ++ bytes) text
+  pub transcript_past : (bytes input text : List ℕ) (ended : Lines) (rest : List ℕ) (s : State) → 1000000 ≤ count ended → Cut input ended rest → AnswersLines u o detection ended text s → Transcript u o detection (input ++ bytes) text
   transcript_past [] input text ended rest s many cut h =
       rw (append-nil input) (record { ended = ended; rest = rest; left = s; cut = cut; answered = rest_past ended rest text s many h })
   transcript_past (b ∷ bs) input text ended rest s many cut h =
@@ -36,7 +36,7 @@ module _ (u : Relations) (o : Order) (detection : Detection) where
       there : (c : ℕ) → c ≡ b → Transcript u o detection ((input ++ c ∷ []) ++ bs) text → Transcript u o detection (input ++ b ∷ bs) text
       there c is t = subst (λ (xs : List ℕ). Transcript u o detection xs text) (append_assoc input (c ∷ []) bs ∙ ap (λ (x : ℕ). input ++ x ∷ bs) is) t
 
-      by_byte : (t : Bool) → eqb b 10 ≡ t → Transcript u o detection ((input ++ 10 ∷ []) ++ bs) text → (Unbroken (b ∷ []) → Transcript u o detection ((input ++ b ∷ []) ++ bs) text) → Transcript u o detection (input ++ b ∷ bs) text
+      by_byte : (t : Bool) → eqb b 10 ≡ t → Transcript u o detection ((input ++ 10 ∷ []) ++ bs) text → (IsUnbroken (b ∷ []) → Transcript u o detection ((input ++ b ∷ []) ++ bs) text) → Transcript u o detection (input ++ b ∷ bs) text
       by_byte true e ends goes = there 10 (grind (arith, nat_tests, e)) ends
       by_byte false e ends goes = there b refl (goes (grind (arith, nat_tests, e)))
 

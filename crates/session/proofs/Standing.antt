@@ -1,7 +1,8 @@
 -- Where a console stands after a line, and after bytes of one.
 use Rattle.std.proofs.Common.{◌≡◌, ℕ, suc, ◌<◌, cond, ltb, List, [], ◌++◌, take, Result, sym, ap, ◌∙◌, subst, arith}
+use Rattle.std.proofs.lemmas.List.{append-nil}
 use Rattle.std.proofs.lemmas.Bool.Decides.{nat_tests}
-use Rattle.text_buffer.proofs.Behind.{take_cut}
+use Rattle.text_buffer.proofs.TextBufferLemmas.{take_cut}
 use Rattle.uses.specs.Relations.{Relations}
 use Rattle.model.specs.State.{State}
 use Rattle.model.specs.Recalling.{Order}
@@ -10,14 +11,14 @@ use Rattle.model.specs.declared.state.Detection.{Detection}
 use Rattle.model.specs.declared.report.Report.{Report}
 use Rattle.book.specs.Tables.{state}
 use Rattle.book.specs.declared.answer.Answer.{Answer}
-use Rattle.protocol.specs.Words.{Reply, reply_to, printed, named_recalled, named_woken}
+use Rattle.protocol.specs.Words.{Reply, reply_to, printed, recalled_entries, woken_entries}
 use Rattle.protocol.specs.declared.fault.Fault.{Fault}
 use Rattle.session.specs.Inputs.{Lines, more, count}
-use Rattle.session.specs.Transcript.{Gives, Turn, is_read, is_past, Answered, then_line}
-use Rattle.session.specs.Responses.{Responded}
+use Rattle.session.specs.Transcript.{Gives, Turn, is_read, is_past, AnswersLines, then_line}
+use Rattle.session.specs.Responses.{Responds}
 use Rattle.session.specs.Stands.{HasAnswered}
 use Rattle.session.specs.declared.console.Console.{Console}
-use Rattle.session.proofs.Kept.{gives_kept}
+use Rattle.session.proofs.Kept.{gives_same}
 use Rattle.session.proofs.Naming.{recalled_filled, woken_filled}
 
 -- before the last line the lines are counted
@@ -33,51 +34,52 @@ counted_last : (answered n : ℕ) → answered ≡ cond (ltb n 1000000) n 100000
 counted_last answered n is last = (grind (arith, nat_tests, is, last), grind (arith, nat_tests, is, last))
 
 -- a line was answered
-line_answered : {T O : Type 0} {tm : _} (u : Relations) (o : Order) (detection : Detection) (ended : Lines) (rest text now : List ℕ) (before after : Console T O tm) (number : ℕ) (reply : Reply) (recalls wakes : List ReportEntry) → HasAnswered u o detection ended rest text before → before.answered < 1000000 → number ≡ suc before.answered → Gives u o number (state before.book.tables) before.line reply recalls wakes (state after.book.tables) → now ≡ printed number reply recalls wakes → after.answered ≡ number → after.line ≡ [] → HasAnswered u o detection (more ended rest) [] (text ++ now) after
-line_answered u o detection ended rest text now before after number reply recalls wakes h below next gives prints counts anew = record {
+line_answered : {T O : Type 0} {tm : _} (u : Relations) (o : Order) (detection : Detection) (ended : Lines) (first line text now : List ℕ) (before after : Console T O tm) (number : ℕ) (reply : Reply) (recalls wakes : List ReportEntry) → take 33 first ≡ take 33 line → HasAnswered u o detection ended [] text before → before.answered < 1000000 → number ≡ suc before.answered → Gives u o number (state before.book.tables) first reply recalls wakes (state after.book.tables) → now ≡ printed number reply recalls wakes → after.answered ≡ number → after.line ≡ before.line → HasAnswered u o detection (more ended line) [] (text ++ now) after
+line_answered u o detection ended first line text now before after number reply recalls wakes same h below next gives prints counts anew = record {
   answered = then_line h.answered turn;
   counted = counts ∙ (next ∙ counted_more before.answered (count ended) h.counted below);
-  kept = anew;
+  kept = anew ∙ h.kept;
 }
   where
-    given : Gives u o number (state before.book.tables) rest reply recalls wakes (state after.book.tables)
-    given = gives_kept u o number (state before.book.tables) rest reply recalls wakes (state after.book.tables)
-        (subst (λ (l : List ℕ). Gives u o number (state before.book.tables) l reply recalls wakes (state after.book.tables)) h.kept gives)
+    given : Gives u o number (state before.book.tables) line reply recalls wakes (state after.book.tables)
+    given = gives_same u o number (state before.book.tables) first line reply recalls wakes (state after.book.tables) same gives
 
-    turn : Turn u o (suc (count ended)) (state before.book.tables) rest now (state after.book.tables)
-    turn = subst (λ (n : ℕ). Turn u o n (state before.book.tables) rest now (state after.book.tables)) (next ∙ ap suc (counted_below before.answered (count ended) h.counted below))
-        (subst (λ (t : List ℕ). Turn u o number (state before.book.tables) rest t (state after.book.tables)) (sym prints) (is_read given))
+    turn : Turn u o (suc (count ended)) (state before.book.tables) line now (state after.book.tables)
+    turn = subst (λ (n : ℕ). Turn u o n (state before.book.tables) line now (state after.book.tables)) (next ∙ ap suc (counted_below before.answered (count ended) h.counted below))
+        (subst (λ (t : List ℕ). Turn u o number (state before.book.tables) line t (state after.book.tables)) (sym prints) (is_read given))
 
 -- a line was responded to, and the response was printed
-pub response_printed : {T O : Type 0} {tm : _} (u : Relations) (o : Order) (detection : Detection) (ended : Lines) (rest text now line : List ℕ) (before after : Console T O tm) (number : ℕ) (outcome : Result Answer Fault) (r : Report) → HasAnswered u o detection ended rest text before → before.answered < 1000000 → number ≡ suc before.answered → line ≡ before.line → Responded u o number (state before.book.tables) line outcome r (state after.book.tables) → now ≡ printed number (reply_to outcome) (named_recalled r) (named_woken r) → after.answered ≡ number → after.line ≡ [] → HasAnswered u o detection (more ended rest) [] (text ++ now) after
-response_printed u o detection ended rest text now line before after number outcome r h below next is done prints counts anew =
-    line_answered u o detection ended rest text now before after number (reply_to outcome) done.recalls done.wakes h below next
-    (subst (λ (l : List ℕ). Gives u o number (state before.book.tables) l (reply_to outcome) done.recalls done.wakes (state after.book.tables)) is done.gives)
+pub response_printed : {T O : Type 0} {tm : _} (u : Relations) (o : Order) (detection : Detection) (ended : Lines) (first line text now : List ℕ) (before after : Console T O tm) (number : ℕ) (outcome : Result Answer Fault) (r : Report) → take 33 first ≡ take 33 line → HasAnswered u o detection ended [] text before → before.answered < 1000000 → number ≡ suc before.answered → Responds u o number (state before.book.tables) first outcome r (state after.book.tables) → now ≡ printed number (reply_to outcome) (recalled_entries r) (woken_entries r) → after.answered ≡ number → after.line ≡ before.line → HasAnswered u o detection (more ended line) [] (text ++ now) after
+response_printed u o detection ended first line text now before after number outcome r same h below next done prints counts anew =
+    line_answered u o detection ended first line text now before after number (reply_to outcome) done.recalls done.wakes same h below next done.gives
     (prints ∙ named) counts anew
   where
-    recalled : named_recalled r ≡ done.recalls
-    recalled = ap (λ (x : Report). named_recalled x) done.reported ∙ recalled_filled done.recalls done.wakes done.fits
+    recalled : recalled_entries r ≡ done.recalls
+    recalled = ap (λ (x : Report). recalled_entries x) done.reported ∙ recalled_filled done.recalls done.wakes done.fits
 
-    woken : named_woken r ≡ done.wakes
-    woken = ap (λ (x : Report). named_woken x) done.reported ∙ woken_filled done.recalls done.wakes done.fits
+    woken : woken_entries r ≡ done.wakes
+    woken = ap (λ (x : Report). woken_entries x) done.reported ∙ woken_filled done.recalls done.wakes done.fits
 
-    named : printed number (reply_to outcome) (named_recalled r) (named_woken r) ≡ printed number (reply_to outcome) done.recalls done.wakes
-    named = ap (λ (xs : List ReportEntry). printed number (reply_to outcome) xs (named_woken r)) recalled ∙ ap (λ (ys : List ReportEntry). printed number (reply_to outcome) done.recalls ys) woken
+    named : printed number (reply_to outcome) (recalled_entries r) (woken_entries r) ≡ printed number (reply_to outcome) done.recalls done.wakes
+    named = ap (λ (xs : List ReportEntry). printed number (reply_to outcome) xs (woken_entries r)) recalled ∙ ap (λ (ys : List ReportEntry). printed number (reply_to outcome) done.recalls ys) woken
 
 -- a line came after the last one that is read
-pub line_passed : {T O : Type 0} {tm : _} (u : Relations) (o : Order) (detection : Detection) (ended : Lines) (rest text now : List ℕ) (before after : Console T O tm) → HasAnswered u o detection ended rest text before → before.answered ≡ 1000000 → state after.book.tables ≡ state before.book.tables → now ≡ [] → after.answered ≡ before.answered → after.line ≡ [] → HasAnswered u o detection (more ended rest) [] (text ++ now) after
-line_passed u o detection ended rest text now before after h last same prints counts anew = record {
+pub line_passed : {T O : Type 0} {tm : _} (u : Relations) (o : Order) (detection : Detection) (ended : Lines) (line text now : List ℕ) (c : Console T O tm) → HasAnswered u o detection ended [] text c → c.answered ≡ 1000000 → now ≡ [] → HasAnswered u o detection (more ended line) [] (text ++ now) c
+line_passed u o detection ended line text now c h last prints = record {
   answered = then_line h.answered turn;
-  counted = counts ∙ past.1;
-  kept = anew;
+  counted = past.1;
+  kept = h.kept;
 }
   where
-    past : (1000000 < suc (count ended)) × (before.answered ≡ cond (ltb (suc (count ended)) 1000000) (suc (count ended)) 1000000)
-    past = counted_last before.answered (count ended) h.counted last
+    past : (1000000 < suc (count ended)) × (c.answered ≡ cond (ltb (suc (count ended)) 1000000) (suc (count ended)) 1000000)
+    past = counted_last c.answered (count ended) h.counted last
 
-    turn : Turn u o (suc (count ended)) (state before.book.tables) rest now (state after.book.tables)
-    turn = subst (λ (s : State). Turn u o (suc (count ended)) (state before.book.tables) rest now s) (sym same)
-        (subst (λ (t : List ℕ). Turn u o (suc (count ended)) (state before.book.tables) rest t (state before.book.tables)) (sym prints) (is_past past.0))
+    turn : Turn u o (suc (count ended)) (state c.book.tables) line now (state c.book.tables)
+    turn = subst (λ (t : List ℕ). Turn u o (suc (count ended)) (state c.book.tables) line t (state c.book.tables)) (sym prints) (is_past past.0)
+
+-- a cut that is made again
+pub take_again : (n : ℕ) (xs : List ℕ) → take n (take n xs) ≡ take n xs
+take_again n xs = ap (take n) (sym (append-nil (take n xs))) ∙ (take_cut n xs [] ∙ ap (take n) (append-nil xs))
 
 -- the first 33 of a text that grows
 pub kept_more : (xs rest bytes : List ℕ) → xs ≡ take 33 rest → take 33 (xs ++ bytes) ≡ take 33 (rest ++ bytes)
@@ -86,7 +88,7 @@ kept_more xs rest bytes is = ap (λ (ys : List ℕ). take 33 (ys ++ bytes)) is �
 -- bytes of a line were kept
 pub bytes_kept : {T O : Type 0} {tm : _} (u : Relations) (o : Order) (detection : Detection) (ended : Lines) (rest text bytes : List ℕ) (before after : Console T O tm) → HasAnswered u o detection ended rest text before → state after.book.tables ≡ state before.book.tables → after.answered ≡ before.answered → after.line ≡ take 33 (before.line ++ bytes) → HasAnswered u o detection ended (rest ++ bytes) text after
 bytes_kept u o detection ended rest text bytes before after h same counts keeps = record {
-  answered = subst (λ (s : State). Answered u o detection ended text s) (sym same) h.answered;
+  answered = subst (λ (s : State). AnswersLines u o detection ended text s) (sym same) h.answered;
   counted = counts ∙ h.counted;
   kept = keeps ∙ kept_more before.line rest bytes h.kept;
 }

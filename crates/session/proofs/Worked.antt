@@ -19,12 +19,12 @@ use Rattle.protocol.proofs.Texts.{one_field, two_fields, three_fields, first}
 use Rattle.protocol.proofs.Letters.{reads_call, reads_wrong, reads_empty, spells_open, spells_claim, spells_close, spells_acknowledge, spells_sweep}
 use Rattle.protocol.proofs.Coming.{came_end}
 use Rattle.session.specs.Inputs.{Lines, none, more, count}
-use Rattle.session.specs.Transcript.{Turn, is_read, is_past, too_many, faulty, carried, Answered, nothing, then_line, Transcript}
+use Rattle.session.specs.Transcript.{Turn, is_read, is_past, too_many, faulty, carried, AnswersLines, nothing, then_line, Transcript}
 use Rattle.session.specs.Examples.{input, text, ExamplesRight}
 
 -- the lines have been answered, so far
 abbrev SoFar : Lines → List ℕ → State → Type 0
-SoFar = Answered two_uses newest Continuous
+SoFar = AnswersLines two_uses newest Continuous
 
 -- a line more is carried out
 then_carried : {ls : Lines} {before : List ℕ} {s : State} (line : List ℕ) (c : Call) → suc (count ls) < 1000000 → Reading line (Ok c) → SoFar ls before s

@@ -8,4 +8,5 @@ use Rattle.session.specs.Transcript.{Transcript}
 -- an input has one transcript
 abbrev pub TranscriptUnique : Type 0
 TranscriptUnique =
-    (u : Relations) (o : Order) (detection : Detection) (input one other : List ℕ) → Transcript u o detection input one → Transcript u o detection input other → one ≡ other
+    (u : Relations) (o : Order) (detection : Detection) (input one other : List ℕ)
+    → Transcript u o detection input one → Transcript u o detection input other → one ≡ other

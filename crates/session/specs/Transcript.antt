@@ -12,30 +12,47 @@ use Rattle.protocol.specs.Reading.{Reading}
 use Rattle.protocol.specs.Words.{Reply, answer, fault, printed}
 use Rattle.protocol.specs.declared.fault.Fault.{Fault}
 use Rattle.session.specs.Inputs.{Lines, none, more, count, Cut, with_rest}
+use Rattle.session.specs.declared.limits.TheConstants.{LAST_LINE}
 
--- what the line of a number gives in a state: the reply, the recalled, the woken, and the state left
-pub data Gives (u : Relations) (o : Order) (number : ℕ) (s : State) (line : List ℕ) : Reply → List ReportEntry → List ReportEntry → State → Type 0 where
-  -- 44: the line is number 1000000, whatever is in it
-  too_many : number ≡ 1000000 → Gives u o number s line (fault 44 1) [] [] s
-  -- a line with another fault leaves the state alone too
-  faulty : number < 1000000 → (f : Fault) → Reading line (Err f) → Gives u o number s line (fault (fault_number f) (fault_place f)) [] [] s
-  -- a correct line is carried out as the model says
-  carried : number < 1000000 → (c : Call) → Reading line (Ok c) → Gives u o number s line (answer (step u o s c).answer) (step u o s c).recalls (step u o s c).wakes (step u o s c).state
+-- the reply to a line fault
+abbrev pub reply_fault : Fault → Reply
+reply_fault f = fault (fault_number f) (fault_place f)
 
--- what is printed for the line of a number in a state, and the state left; after line 1000000 reading has stopped
-pub data Turn (u : Relations) (o : Order) (number : ℕ) (s : State) (line : List ℕ) : List ℕ → State → Type 0 where
-  is_read : {reply : Reply} {recalls wakes : List ReportEntry} {t : State} → Gives u o number s line reply recalls wakes t → Turn u o number s line (printed number reply recalls wakes) t
-  is_past : 1000000 < number → Turn u o number s line [] s
+module _ (u : Relations) (o : Order) where
+  -- what the line of a number gives in a state: the reply, the recalled, the woken, the state left
+  pub data Gives (number : ℕ) (s : State) (line : List ℕ)
+      : Reply → List ReportEntry → List ReportEntry → State → Type 0 where
+    -- 44: the line is the last that is read, whatever is in it
+    too_many : number ≡ LAST_LINE → Gives number s line (fault 44 1) [] [] s
+    -- a line with another fault leaves the state alone too
+    faulty : number < LAST_LINE → (f : Fault) → Reading line (Err f)
+        → Gives number s line (reply_fault f) [] [] s
+    -- a correct line is carried out as the model says
+    carried : number < LAST_LINE → (c : Call) → Reading line (Ok c)
+        → Gives number s line
+            (answer (step u o s c).answer)
+            (step u o s c).recalls (step u o s c).wakes (step u o s c).state
 
--- what lines print in all, from a new book on, and the state left
-pub data Answered (u : Relations) (o : Order) (detection : Detection) : Lines → List ℕ → State → Type 0 where
-  nothing : Answered u o detection none [] (new detection)
-  then_line : {ls : Lines} {before now : List ℕ} {s t : State} {line : List ℕ} → Answered u o detection ls before s → Turn u o (suc (count ls)) s line now t → Answered u o detection (more ls line) (before ++ now) t
+  -- what is printed for the line of a number in a state, and the state left; after the last line
+  -- reading has stopped
+  pub data Turn (number : ℕ) (s : State) (line : List ℕ) : List ℕ → State → Type 0 where
+    is_read : {reply : Reply} {recalls wakes : List ReportEntry} {t : State}
+        → Gives number s line reply recalls wakes t
+        → Turn number s line (printed number reply recalls wakes) t
+    is_past : LAST_LINE < number → Turn number s line [] s
 
--- the text is the transcript of the input
-pub record Transcript (u : Relations) (o : Order) (detection : Detection) (input text : List ℕ) : Type 0 where
-  pub ended : Lines
-  pub rest : List ℕ
-  pub left : State
-  pub cut : Cut input ended rest
-  pub answered : Answered u o detection (with_rest ended rest) text left
+  module _ (detection : Detection) where
+    -- what lines print in all, from a new book on, and the state left
+    pub data AnswersLines : Lines → List ℕ → State → Type 0 where
+      nothing : AnswersLines none [] (new detection)
+      then_line : {ls : Lines} {before now : List ℕ} {s t : State} {line : List ℕ}
+          → AnswersLines ls before s → Turn (suc (count ls)) s line now t
+          → AnswersLines (more ls line) (before ++ now) t
+
+    -- the text is the transcript of the input
+    pub record Transcript (input text : List ℕ) : Type 0 where
+      pub ended : Lines
+      pub rest : List ℕ
+      pub left : State
+      pub cut : Cut input ended rest
+      pub answered : AnswersLines (with_rest ended rest) text left

@@ -1,19 +1,202 @@
-// The console's memory.
-ghost use Rattle.std.specs.Prelude.{◌≤◌};
+// A session over one input.
+ghost use Rattle.std.specs.Prelude.{◌≡◌, ◌≤◌, [], ◌==◌, OnErr};
+ghost use Rattle.std.specs.List.{position_or_len};
+ghost use Rattle.model.specs.Calls.{report_of};
+ghost use Rattle.session.specs.Responses.{IsRequest};
+ghost use Rattle.session.specs.declared.limits.TheConstants.{LAST_LINE};
 
+use crate::limits::{KEPT, LAST_LINE};
+use book::answer::Answer;
 use book::book::Book;
 use fixed_list::FixedList;
+use memchr::memchr;
+use model::call::Call;
+use model::report::Report;
+use model::state::Detection;
+use orders::order::RecallOrder;
+use protocol::fault::Fault;
+use protocol::form::read_call;
+use protocol::outcome::print_outcome;
+use std::alloc::AllocError;
+use std::mem;
+use text_buffer::TextBuffer;
 use uses::table::UseTable;
 
-// A console (a session over one input): a book, and the line that has begun.
+/// A console (a session over one input): a book, and the line that has begun.
 #[derive(Drop)]
 pub struct Console<T: UseTable, O> {
-    // Kept: each call says in a clause of its own, one equation, that the book's policy stays, so
-    // that `Reads` and its like speak of nothing but what is read and printed.
     pub(crate) book: Book<T, O>,
     // how many lines were answered
     pub(crate) answered: u32,
-    // the first bytes of the line that has begun: enough to see that it is too long
-    pub(crate) line: FixedList<u8, 33>,
-    ghost few: { answered ≤ 1000000 },
+    // the first bytes of the line that has begun
+    pub(crate) line: FixedList<u8, KEPT>,
+    // what the last call told
+    pub(crate) report: Report,
+    ghost few: { answered ≤ LAST_LINE },
+}
+
+// How many bytes of a piece stand before its first byte 10, or how many it has if none is in it.
+#[inline(always)]
+fn before_line_end(piece: &[u8]) -> usize
+    ensures { result ≡ position_or_len (λ b. b == 10) piece.now }
+{
+    memchr(b'\n', piece).unwrap_or(piece.len())
+}
+
+// Reads the line of a number as a call.
+#[inline(always)]
+fn read_line(number: u32, line: &[u8]) -> Result<Call, Fault>
+    requires { number ≤ LAST_LINE }
+    ensures { IsRequest number line.now result }
+{
+    if number == LAST_LINE {
+        return Err(Fault::TooManyLines);
+    }
+    read_call(line)
+}
+
+// Reads the line of a number as a call. Where it is none, the report tells of nobody.
+#[inline(always)]
+fn request(number: u32, line: &[u8], report: &mut Report) -> Result<Call, Fault>
+    requires { number ≤ LAST_LINE }
+    ensures read { IsRequest number line.now result }
+    ensures told { OnErr result (report.new ≡ report_of [] []) }
+{
+    let request = read_line(number, line);
+    if request.is_err() {
+        *report = Report::empty();
+    }
+    request
+}
+
+impl<T: UseTable, O: RecallOrder> Console<T, O> {
+    ghost use Rattle.std.specs.Prelude.{◌≡◌, [], ◌++◌, take, OnOk, OnErr};
+    ghost use Rattle.book.specs.Tables.{state};
+    ghost use Rattle.session.specs.Inputs.{line_length};
+    ghost use Rattle.session.specs.Responses.{Responds};
+    ghost use Rattle.session.specs.Stands.{HasRead, AnswersLine, EndsLine, Reads, ReadsAll, LosesAnswer, EndsLines, Finishes, TellsStop};
+
+    /// A console over a new book. Nothing has been read or printed.
+    pub fn new(table: T, order: O, detection: Detection) -> Console<T, O>
+        ensures starts { HasRead (T.meaning table) (O.meaning order) detection [] [] result }
+        ensures table { result.book.policy.table ≡ table }
+        ensures order { result.book.policy.order ≡ order }
+    {
+        Console {
+            book: Book::new(table, order, detection),
+            answered: 0,
+            line: FixedList::new(0),
+            report: Report::empty(),
+        }
+    }
+
+    /// Has line 1000000 been answered? Then nothing more is printed, whatever comes.
+    pub fn has_stopped(&self) -> bool
+        ensures { TellsStop T.meaning O.meaning self.now result }
+    {
+        self.answered == LAST_LINE
+    }
+
+    // Reads a line, whose number is that of the answers, as a call, and carries it out.
+    fn respond(&mut self, line: &[u8]) -> Result<Answer, Fault>
+        ensures done { Responds (T.meaning self.old.book.policy.table)
+            (O.meaning self.old.book.policy.order) self.old.answered (state self.old.book.tables)
+            line.now result self.new.report (state self.new.book.tables) }
+        ensures policy { self.new.book.policy ≡ self.old.book.policy }
+        ensures answered { self.new.answered ≡ self.old.answered }
+        ensures line { self.new.line ≡ self.old.line }
+    {
+        let call = request(self.answered, line, &mut self.report)?;
+        let answer = self.book.carry_out(call, &mut self.report)?;
+        Ok(answer)
+    }
+
+    // Answers a line. After line 1000000 nothing is printed.
+    fn answer(&mut self, line: &[u8], printed: &mut TextBuffer)
+        ensures done { AnswersLine T.meaning O.meaning self.old self.new line.now printed.new }
+        ensures policy { self.new.book.policy ≡ self.old.book.policy }
+    {
+        if self.answered == LAST_LINE {
+            printed.clear();
+            return;
+        }
+        self.answered += 1;
+        let outcome = self.respond(line);
+        print_outcome(self.answered, outcome, &self.report, printed);
+    }
+
+    // Keeps bytes of the line that has begun, as far as they are among its first 33.
+    fn gather(&mut self, bytes: &[u8])
+        ensures kept { self.new.line ≡ take KEPT (self.old.line ++ bytes.now) }
+        ensures book { self.new.book ≡ self.old.book }
+        ensures answered { self.new.answered ≡ self.old.answered }
+    {
+        let room = KEPT - self.line.len();
+        self.line.extend_from_slice(&bytes[..room.min(bytes.len())]);
+    }
+
+    // The line that has begun ends with these bytes, and is answered. A line that lies in them
+    // whole is read where it lies.
+    fn end_line(&mut self, bytes: &[u8], printed: &mut TextBuffer)
+        ensures done { EndsLine T.meaning O.meaning self.old self.new bytes.now printed.new }
+        ensures policy { self.new.book.policy ≡ self.old.book.policy }
+    {
+        if self.line.len() == 0 {
+            self.answer(bytes, printed);
+            return;
+        }
+        self.gather(bytes);
+        let line = mem::replace(&mut self.line, FixedList::new(0));
+        self.answer(line.rows(), printed);
+    }
+
+    /// Takes the bytes of a piece up to the end of the line that has begun or of the piece, and
+    /// answers the line if it has come to its end. Says how many bytes it took.
+    pub fn take(&mut self, piece: &[u8], printed: &mut TextBuffer) -> usize
+        ensures taken { result ≡ line_length piece.now }
+        ensures read {
+            Reads T.meaning O.meaning self.old self.new (take result piece.now) printed.new }
+        ensures policy { self.new.book.policy ≡ self.old.book.policy }
+    {
+        let count = before_line_end(piece);
+        if count == piece.len() {
+            printed.clear();
+            self.gather(piece);
+            return count;
+        }
+        self.end_line(&piece[..count], printed);
+        count + 1
+    }
+
+    /// The input has ended: the line that has begun, if there is one, is answered.
+    pub fn finish(&mut self, printed: &mut TextBuffer)
+        ensures read { Finishes T.meaning O.meaning self.old printed.new }
+        ensures left { EndsLines T.meaning O.meaning self.old self.new printed.new }
+        ensures policy { self.new.book.policy ≡ self.old.book.policy }
+    {
+        if self.line.len() == 0 {
+            printed.clear();
+            return;
+        }
+        self.end_line(&[], printed);
+    }
+
+    /// Takes a whole piece, and puts all that is printed behind what is in `out`. Where there is no
+    /// memory for an answer, that answer is lost, and what stands behind its line is not taken.
+    pub fn take_all(&mut self, piece: &[u8], out: &mut Vec<u8>) -> Result<(), AllocError>
+        ensures read { OnOk result
+            (ReadsAll T.meaning O.meaning self.old self.new piece.now out.old.items out.new.items) }
+        ensures failed { OnErr result
+            (LosesAnswer T.meaning O.meaning self.old self.new piece.now out.old.items out.new.items) }
+        ensures policy { self.new.book.policy ≡ self.old.book.policy }
+    {
+        let mut printed = TextBuffer::new();
+        let mut rest = piece;
+        while !rest.is_empty() {
+            let taken = self.take(rest, &mut printed);
+            out.extend_from_slice(printed.text())?;
+            rest = &rest[taken..];
+        }
+        Ok(())
+    }
 }

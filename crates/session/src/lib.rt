@@ -1,9 +1,7 @@
 #![tactic(auto)]
 
 // A console over a book: an input in pieces, and its answers in printed bytes.
-mod answering;
 pub mod console;
-mod reading;
+pub mod limits;
 pub mod serving;
 pub mod theorems;
-pub mod whole;

@@ -8,10 +8,10 @@ use Rattle.orders.specs.declared.order.Summary.{Summary}
 use Rattle.orders.specs.Orders.{newest, lightest, fewest, pair}
 use Rattle.settings.specs.declared.any_table.AnyTable.{AnyTable}
 use Rattle.settings.specs.declared.any_table.AnyTable.TheVariants.{Two, Five, Span}
+use Rattle.settings.specs.declared.single_order.SingleOrder.{SingleOrder}
+use Rattle.settings.specs.declared.single_order.SingleOrder.TheVariants.{Newest, Lightest, Fewest}
 use Rattle.settings.specs.declared.any_order.AnyOrder.{AnyOrder}
-use Rattle.settings.specs.declared.any_order.AnyOrder.TheVariants.{Newest, Lightest, Fewest}
-use Rattle.settings.specs.declared.any_order.ChosenOrder.{ChosenOrder}
-use Rattle.settings.specs.declared.any_order.ChosenOrder.TheVariants.{One, Both}
+use Rattle.settings.specs.declared.any_order.AnyOrder.TheVariants.{One, Pair}
 
 -- the relations of the chosen table
 abbrev pub table_meaning : AnyTable → Relations
@@ -20,12 +20,12 @@ table_meaning (Five t) = five_uses
 table_meaning (Span t) = spans
 
 -- the relation of the chosen single order
-abbrev pub order_meaning : AnyOrder → Summary → Summary → Bool
-order_meaning Newest = newest
-order_meaning Lightest = lightest
-order_meaning Fewest = fewest
+abbrev pub single_meaning : SingleOrder → Summary → Summary → Bool
+single_meaning Newest = newest
+single_meaning Lightest = lightest
+single_meaning Fewest = fewest
 
 -- the relation of the chosen order; of a pair the first counts first
-abbrev pub chosen_meaning : ChosenOrder → Summary → Summary → Bool
-chosen_meaning (One o) = order_meaning o
-chosen_meaning (Both p) = pair (order_meaning p.first) (order_meaning p.second)
+abbrev pub order_meaning : AnyOrder → Summary → Summary → Bool
+order_meaning (One o) = single_meaning o
+order_meaning (Pair p) = pair (single_meaning p.first) (single_meaning p.second)

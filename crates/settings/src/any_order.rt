@@ -1,56 +1,53 @@
-// One of the three orders, or a pair of them.
-ghost use Rattle.settings.specs.Meanings.{order_meaning, chosen_meaning};
-ghost use Rattle.std.proofs.Common.{rules};
+// A recall order that is chosen by name.
+ghost use Rattle.settings.specs.Meanings.{order_meaning};
 ghost use Rattle.settings.specs.OrderLaws.{single_lawful, pair_lawful};
-ghost use Rattle.settings.specs.declared.any_order.ChosenOrder.TheVariants.{One, Both};
+ghost use Rattle.settings.specs.declared.any_order.AnyOrder.TheVariants.{One, Pair};
 
+use crate::single_order::SingleOrder;
+use crate::unknown_name::UnknownName;
 use orders::order::{RecallOrder, Summary};
 use orders::pair::Then;
-use orders::single::{Fewest, Lightest, Newest};
+use std::str::FromStr;
 
-// A single order that is chosen at run time.
-// Kept: here and below, an enum with a match: a `dyn` order would have to be handed out, which the
-// gate refuses.
-#[derive(Clone, Copy, Debug, PartialEq, Eq)]
+/// One single order, or a pair of them: the second counts where the first ties.
+#[derive(Clone, Copy, Debug)]
 pub enum AnyOrder {
-    Newest,
-    Lightest,
-    Fewest,
+    One(SingleOrder),
+    Pair(Then<SingleOrder, SingleOrder>),
 }
 
 impl RecallOrder for AnyOrder {
     ghost meaning = { order_meaning };
 
-    ghost lawful = { Prim.search rules };
-
-    fn no_later(&self, a: Summary, b: Summary) -> bool {
-        match self {
-            AnyOrder::Newest => Newest.no_later(a, b),
-            AnyOrder::Lightest => Lightest.no_later(a, b),
-            AnyOrder::Fewest => Fewest.no_later(a, b),
-        }
-    }
-}
-
-// An order that is chosen at run time: one, or a second where the first ties.
-#[derive(Clone, Copy, Debug)]
-pub enum ChosenOrder {
-    One(AnyOrder),
-    Both(Then<AnyOrder, AnyOrder>),
-}
-
-impl RecallOrder for ChosenOrder {
-    ghost meaning = { chosen_meaning };
-
     ghost lawful = { elim [
       | One o ↦ single_lawful o
-      | Both p ↦ pair_lawful (single_lawful p.first) (single_lawful p.second)
+      | Pair p ↦ pair_lawful (single_lawful p.first) (single_lawful p.second)
     ] };
 
     fn no_later(&self, a: Summary, b: Summary) -> bool {
         match self {
-            ChosenOrder::One(order) => order.no_later(a, b),
-            ChosenOrder::Both(pair) => pair.no_later(a, b),
+            AnyOrder::One(order) => order.no_later(a, b),
+            AnyOrder::Pair(pair) => pair.no_later(a, b),
         }
+    }
+}
+
+impl FromStr for AnyOrder {
+    ghost use Rattle.std.specs.Result.{result_ok};
+    ghost use Rattle.settings.specs.Names.{IsNameOf, order_name};
+
+    type Err = UnknownName;
+
+    ghost from_str_gives = { λ word r. IsNameOf order_name word (result_ok r) };
+
+    /// Reads a single order's name, or two with a comma between; of two the first counts first.
+    fn from_str(word: &str) -> Result<Self, UnknownName> {
+        let Some((first, second)) = word.split_once(',') else {
+            return Ok(AnyOrder::One(word.parse()?));
+        };
+        Ok(AnyOrder::Pair(Then {
+            first: first.parse()?,
+            second: second.parse()?,
+        }))
     }
 }

@@ -4,8 +4,8 @@ use Rattle.protocol.specs.Reading.{Reading}
 use Rattle.protocol.proofs.Letters.{reads_long, reads_empty}
 use Rattle.protocol.proofs.form.read_call.Goals as goal
 
-pub returns-then-line-gt-LONGEST : goal.returns-then-line-gt-LONGEST
-returns-then-line-gt-LONGEST c = search (rules, reads_long)
+pub returns-then-line-gt-LONGEST_LINE : goal.returns-then-line-gt-LONGEST_LINE
+returns-then-line-gt-LONGEST_LINE c = search (rules, reads_long)
 
 pub returns-in-empty : goal.returns-in-empty
 returns-in-empty c = search (rules, reads_empty, ltb-true)

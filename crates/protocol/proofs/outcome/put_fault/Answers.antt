@@ -1,6 +1,6 @@
 use Rattle.std.proofs.Common.{◌≡◌, ℕ, sym, ap, ◌∙◌, ⊎_elim, arith, append_assoc}
 use Rattle.model.specs.Calls.{answer_refused}
-use Rattle.text_buffer.proofs.Behind.{behind_behind}
+use Rattle.text_buffer.proofs.TextBufferLemmas.{behind_behind}
 use Rattle.protocol.specs.Faults.{fault_number, fault_place, fault_layer}
 use Rattle.protocol.specs.Words.{words, answer, fault_reply}
 use Rattle.protocol.specs.declared.fault.Layer.{Layer}

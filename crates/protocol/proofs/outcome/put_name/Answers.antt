@@ -1,5 +1,5 @@
 use Rattle.std.proofs.Common.{append_assoc}
-use Rattle.text_buffer.proofs.Behind.{behind_behind}
+use Rattle.text_buffer.proofs.TextBufferLemmas.{behind_behind}
 use Rattle.protocol.proofs.outcome.put_name.Goals as goal
 
 pub returns : goal.returns

@@ -1,7 +1,7 @@
 use Rattle.std.proofs.Common.{◌≡◌, ℕ, ◌≤◌, List, length, Result, sym, ap, ◌∙◌, subst, arith, append_assoc}
 use Rattle.book.specs.declared.answer.Answer.{Answer}
-use Rattle.text_buffer.specs.Text.{put_behind}
-use Rattle.text_buffer.proofs.Behind.{behind_behind}
+use Rattle.text_buffer.specs.TextBuffer.{put_behind}
+use Rattle.text_buffer.proofs.TextBufferLemmas.{behind_behind}
 use Rattle.protocol.specs.Words.{words, reply_to}
 use Rattle.protocol.specs.declared.fault.Fault.{Fault}
 use Rattle.protocol.proofs.Lengths.{answer_short, line_short}

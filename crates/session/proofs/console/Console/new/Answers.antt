@@ -1,7 +1,7 @@
 use Rattle.std.proofs.Common.{[], sym, refl, subst}
 use Rattle.model.specs.State.{State}
 use Rattle.session.specs.Inputs.{none}
-use Rattle.session.specs.Transcript.{Answered, nothing}
+use Rattle.session.specs.Transcript.{AnswersLines, nothing}
 use Rattle.session.proofs.Cutting.{cut_nothing}
 use Rattle.session.proofs.console.Console.new.Goals as goal
 
@@ -15,7 +15,7 @@ returns g c =
         rest = [];
         cut = cut_nothing;
         stands = record {
-          answered = subst (λ (s : State). Answered u o c.args.detection none [] s) (sym c.new.ensures.after) nothing;
+          answered = subst (λ (s : State). AnswersLines u o c.args.detection none [] s) (sym c.new.ensures.after) nothing;
           counted = refl;
           kept = c.new-2.ensures;
         };

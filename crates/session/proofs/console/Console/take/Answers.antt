@@ -1,4 +1,6 @@
-use Rattle.session.proofs.Gathering.{Gathered, unbroken_before, all_of_line, line_ends, read_gathered, read_line}
+use Rattle.std.proofs.Common.{ℕ, List, ◌++◌, take, sym, ap, ◌∙◌, arith}
+use Rattle.std.proofs.lemmas.List.{take_all}
+use Rattle.session.proofs.Gathering.{Gathered, unbroken_before, all_of_line, line_ends, read_gathered, line_read}
 use Rattle.session.proofs.console.Console.take.Goals as goal
 
 pub returns-then-count-piece-clause-taken : goal.returns-then-count-piece-clause-taken
@@ -9,7 +11,13 @@ returns-then-count-piece-clause-read g c =
     let first = c.args.self.now in
     let piece = c.args.piece.now in
     let n = c.before_line_end-count.result in
-    let gathered : Gathered first c.gather.new.self piece n = record { same_book = c.gather.ensures.book; same_count = c.gather.ensures.answered; kept = c.gather.ensures.kept; unbroken = rw c.before_line_end-count.ensures (unbroken_before piece) } in
+    let all = take_all n piece (omega arith) in
+    let gathered : Gathered first c.gather.new.self piece n = record {
+      same_book = c.gather.ensures.book;
+      same_count = c.gather.ensures.answered;
+      kept = c.gather.ensures.kept ∙ ap (λ (xs : List ℕ). take 33 (first.line ++ xs)) (sym all);
+      unbroken = rw c.before_line_end-count.ensures (unbroken_before piece);
+    } in
     λ detection input before h. read_gathered (g.T.UseTable.meaning first.book.policy.table) (g.O.RecallOrder.meaning first.book.policy.order) detection input before c.clear.new.self first c.gather.new.self piece n gathered c.clear.ensures h
 
 pub returns : goal.returns
@@ -17,10 +25,12 @@ returns g c =
     let first = c.args.self.now in
     let piece = c.args.piece.now in
     let n = c.before_line_end-count.result in
-    let gathered : Gathered first c.gather.new.self piece n = record { same_book = c.gather.ensures.book; same_count = c.gather.ensures.answered; kept = c.gather.ensures.kept; unbroken = rw c.before_line_end-count.ensures (unbroken_before piece) } in
     let ends = line_ends piece n c.before_line_end-count.ensures c.if-count-piece.false in
     record {
       taken = ends.1;
-      read = λ detection input before h. read_line g.T.UseTable.meaning g.O.RecallOrder.meaning detection input before c.answer_line.new.printed first c.gather.new.self c.answer_line.new.self piece n gathered ends.0 ends.2 c.answer_line.ensures.done h;
-      policy = rw (← c.gather.ensures.book) c.answer_line.ensures.policy;
+      read = λ detection input before h. line_read g.T.UseTable.meaning g.O.RecallOrder.meaning detection input before c.end_line.new.printed first c.end_line.new.self piece n (rw c.before_line_end-count.ensures (unbroken_before piece)) ends.0 ends.2 c.end_line.ensures.done h;
+      policy = c.end_line.ensures.policy;
     }
+
+pub overflow_add-result : goal.overflow_add-result
+overflow_add-result g c = let ends = line_ends c.args.piece.now c.before_line_end-count.result c.before_line_end-count.ensures c.if-count-piece.false in omega (arith, ends.0)
