@@ -1,5 +1,5 @@
 -- Sharing a field and having all fields of another span.
-use Rattle.std.specs.Prelude.{◌≡◌, ℕ, ◌<◌, Bool, true, not, ◌&&◌, ◌||◌, Decides, refl}
+use Rattle.std.specs.Prelude.{◌≡◌, ℕ, ◌<◌, ◌↔◌, Bool, true, not, ◌&&◌, ◌||◌, IsTrue, refl}
 use Rattle.std.proofs.Common.{arith}
 use Rattle.std.proofs.lemmas.Bool.Decides.{Decides-below_and, Decides-below_or, nat_tests}
 use Rattle.uses.specs.Spans.{some_field, each_field, takes, share_a_field, has_all_fields_of}
@@ -7,7 +7,7 @@ use Rattle.uses.specs.declared.spans.Span.{Span}
 
 -- the test of some field below n is right
 some_field_decides :
-    (n : ℕ) (p : ℕ → Bool) → Decides (some_field n p) ((k : ℕ) × (k < n) × (p k ≡ true))
+    (n : ℕ) (p : ℕ → Bool) → (IsTrue (some_field n p) ↔ ((k : ℕ) × (k < n) × (p k ≡ true)))
 unfolding some_field
 some_field_decides n p =
     Decides-below_or p (λ k. p k ≡ true) (λ m. some_field m p) (λ k. (λ h. h, λ h. h))
@@ -15,7 +15,7 @@ some_field_decides n p =
 
 -- the test of each field below n is right
 each_field_decides :
-    (n : ℕ) (p : ℕ → Bool) → Decides (each_field n p) ((k : ℕ) → k < n → p k ≡ true)
+    (n : ℕ) (p : ℕ → Bool) → (IsTrue (each_field n p) ↔ ((k : ℕ) → k < n → p k ≡ true))
 unfolding each_field
 each_field_decides n p =
     Decides-below_and p (λ k. p k ≡ true) (λ m. each_field m p) (λ k. (λ h. h, λ h. h))
@@ -24,13 +24,14 @@ each_field_decides n p =
 -- two spans share a field exactly when both take one of the fields
 pub sharing :
     (s t : Span)
-    → Decides (share_a_field s t) ((k : ℕ) × (k < 255) × ((takes s k && takes t k) ≡ true))
+    → (IsTrue (share_a_field s t) ↔ ((k : ℕ) × (k < 255) × ((takes s k && takes t k) ≡ true)))
 sharing s t = some_field_decides 255 (λ field. takes s field && takes t field)
 
 -- a span has all fields of another exactly when it takes each that the other takes
 pub having :
     (s t : Span)
-    → Decides (has_all_fields_of s t) ((k : ℕ) → k < 255 → (not (takes t k) || takes s k) ≡ true)
+    → (IsTrue (has_all_fields_of s t)
+    ↔ ((k : ℕ) → k < 255 → (not (takes t k) || takes s k) ≡ true))
 having s t = each_field_decides 255 (λ field. not (takes t field) || takes s field)
 
 -- sharing a field is symmetric
