@@ -17,7 +17,7 @@ use crate::tables::Tables;
 use crate::wakes::name_all_woken;
 use dispatch_set::DispatchSet;
 use model::limits::{CLAIMS, DISPATCHES};
-use model::report::{Report, ReportEntry};
+use model::report::{Report, ReportEntry, UNUSED_SECTION};
 use model::state::{Claim, Detection};
 use orders::order::{RecallOrder, Summary};
 use uses::table::UseTable;
@@ -102,10 +102,10 @@ fn recall_victims<T: UseTable, O: RecallOrder>(
         let Some(dispatch) = next else {
             return;
         };
-        // a report has numbers and no options: 65535 stands where nobody waits, which is never the
-        // case here, since who is on a cycle waits
+        // a report has numbers and no options; who is on a cycle waits, so that this number of no
+        // section is never taken
         let waiting = tables.claims.waiting_section(&policy.table, dispatch);
-        let section = waiting.unwrap_or(65535);
+        let section = waiting.unwrap_or(UNUSED_SECTION);
         tables.recall(dispatch);
         report.name_recalled(ReportEntry { dispatch, section });
         next = victim(policy, tables);

@@ -129,21 +129,11 @@ swept r = record { state = r.state; answer = answer_ok; recalls = r.recalls }
 
 -- the dispatch joins the end of the open list
 abbrev pub with_open : ℕ → ℕ → State → State
-with_open d weight s = record {
-  opened = s.opened ++ record { dispatch = d; weight = weight } ∷ [];
-  recalled = s.recalled;
-  claims = s.claims;
-  detection = s.detection;
-}
+with_open d weight s = record s { opened = s.opened ++ record { dispatch = d; weight = weight } ∷ [] }
 
 -- the dispatch leaves the recalled set
 abbrev pub without_recalled : ℕ → State → State
-without_recalled d s = record {
-  opened = s.opened;
-  recalled = λ e. not (e == d) && s.recalled e;
-  claims = s.claims;
-  detection = s.detection;
-}
+without_recalled d s = record s { recalled = λ e. not (e == d) && s.recalled e }
 
 -- the dispatch is among the named
 abbrev pub is_named : ℕ → List ReportEntry → Bool

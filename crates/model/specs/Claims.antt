@@ -30,7 +30,7 @@ without d cs = filter (λ c. not (of d c)) cs
 
 -- below, `u` is the meaning of the use table
 module _ (u : Relations) where
-  -- claim b blocks claim c, which stands later: the same section, another dispatch, uses that conflict
+  -- claim b blocks claim c, which stands later: same section, another dispatch, conflicting uses
   abbrev pub blocks : Claim → Claim → Bool
   blocks b c =
       b.section == c.section && (not (b.dispatch == c.dispatch) && u.conflict b.mode c.mode)

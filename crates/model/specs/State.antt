@@ -8,11 +8,11 @@ use Rattle.model.specs.declared.state.OpenEntry.{OpenEntry}
 
 -- all that a book keeps
 pub record State : Type 0 where
-  -- the open list: the open dispatches with their weights, in order of opening
+  -- the open list: the open dispatches (active transactions) with weights, in order of opening
   pub opened : List OpenEntry
-  -- the recalled set: who was recalled and has not been acknowledged yet
+  -- the recalled set: the victims of deadlocks that have not been acknowledged yet
   pub recalled : ℕ → Bool
-  -- the claim list: the claims, in order of arrival
+  -- the claim list: the claims (lock requests), in order of arrival
   pub claims : List Claim
   -- when cycles are looked for; fixed at the making
   pub detection : Detection
@@ -29,7 +29,7 @@ numbers es = map (λ e. e.dispatch) es
 abbrev pub is_open : State → ℕ → Bool
 is_open s d = member d (numbers s.opened)
 
--- a dispatch neither open nor recalled is free
+-- who is neither open nor recalled is free
 abbrev pub is_free : State → ℕ → Bool
 is_free s d = not (is_open s d) && not (s.recalled d)
 
@@ -39,11 +39,11 @@ entries_without d es = filter (λ e. not (e.dispatch == d)) es
 
 -- the dispatch's claims and its open entry are taken out
 abbrev pub state_without : ℕ → State → State
-state_without d s = record { opened = entries_without d s.opened; recalled = s.recalled; claims = without d s.claims; detection = s.detection }
+state_without d s = record s { opened = entries_without d s.opened; claims = without d s.claims }
 
 -- the dispatch joins the recalled set
 abbrev pub with_recalled : ℕ → State → State
-with_recalled d s = record { opened = s.opened; recalled = λ e. (e == d) || s.recalled e; claims = s.claims; detection = s.detection }
+with_recalled d s = record s { recalled = λ e. (e == d) || s.recalled e }
 
 -- the dispatch is recalled: it is taken out and joins the recalled set
 abbrev pub recall : ℕ → State → State
@@ -51,4 +51,4 @@ recall d s = with_recalled d (state_without d s)
 
 -- the claim is entered at the end of the claim list
 abbrev pub state_with_claim : Claim → State → State
-state_with_claim c s = record { opened = s.opened; recalled = s.recalled; claims = s.claims ++ c ∷ []; detection = s.detection }
+state_with_claim c s = record s { claims = s.claims ++ c ∷ [] }
