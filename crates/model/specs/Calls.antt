@@ -129,7 +129,8 @@ swept r = record { state = r.state; answer = answer_ok; recalls = r.recalls }
 
 -- the dispatch joins the end of the open list
 abbrev pub with_open : ℕ → ℕ → State → State
-with_open d weight s = record s { opened = s.opened ++ record { dispatch = d; weight = weight } ∷ [] }
+with_open d weight s =
+    record s { opened = s.opened ++ record { dispatch = d; weight = weight } ∷ [] }
 
 -- the dispatch leaves the recalled set
 abbrev pub without_recalled : ℕ → State → State

@@ -18,7 +18,8 @@ two_open_run detection = next (next (start detection) (Open 1 5)) (Open 2 5)
 -- two stations, each with its own dock, of which one claims the other's
 abbrev pub one_waits_run : Detection → Run
 one_waits_run detection =
-    next (next (next (two_open_run detection) (Claim 1 10 move)) (Claim 2 11 move)) (Claim 1 11 move)
+    next (next (next (two_open_run detection) (Claim 1 10 move)) (Claim 2 11 move))
+    (Claim 1 11 move)
 
 -- and then the other claims that of the one
 abbrev pub two_stations_run : Detection → Run

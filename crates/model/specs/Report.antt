@@ -30,7 +30,8 @@ recalls_of r = entries (take r.recalled r.dispatches) (take r.recalled r.section
 -- whom a report names as woken: the places after those
 abbrev pub wakes_of : Report → List ReportEntry
 wakes_of r =
-    entries (take r.woken (drop r.recalled r.dispatches)) (take r.woken (drop r.recalled r.sections))
+    entries (take r.woken (drop r.recalled r.dispatches))
+    (take r.woken (drop r.recalled r.sections))
 
 -- the text of an entry: its dispatch, a space, its section
 abbrev pub entry_text : ReportEntry → List ℕ
