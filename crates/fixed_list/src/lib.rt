@@ -64,7 +64,7 @@ impl<X: Copy, const N: usize> FixedList<X, N> {
         self.count += 1;
     }
 
-    // Puts entries behind the others.
+    /// Puts entries behind the others.
     pub fn extend_from_slice(&mut self, more: &[X])
         requires { length self.old + length more.now ≤ N }
         ensures { self.new ≡ self.old ++ more.now }
