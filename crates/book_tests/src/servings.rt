@@ -44,10 +44,12 @@ fn a_transcript_is_the_same_however_the_input_is_cut(rt: HostRuntime) -> Result<
 }
 
 // Two cycles of weights 7, 3 and 3 under five uses, which stand until a sweep looks for them.
-const CALLS: &[u8] = b"O 1 7\nO 2 3\nO 3 3\nC 1 10 4\nC 2 11 2\nC 3 11 2\nC 1 11 1\nC 2 10 2\nC 3 10 0\nS\nC 3 10 0\nA 3\nC 1 10 9\nE 1\n";
+const CALLS: &[u8] =
+    b"O 1 7\nO 2 3\nO 3 3\nC 1 10 4\nC 2 11 2\nC 3 11 2\nC 1 11 1\nC 2 10 2\nC 3 10 0\nS\nC 3 10 0\nA 3\nC 1 10 9\nE 1\n";
 
 // What is printed for them, where the lightest is recalled, and of two the newest.
-const ANSWERS: &[u8] = b"1 ok\n2 ok\n3 ok\n4 granted\n5 granted\n6 granted\n7 waits\n8 waits\n9 waits\n10 ok\n10 recall 3 10\n10 recall 2 10\n10 wake 1 11\n11 refused 5\n12 ok\n13 refused 3\n14 ok\n";
+const ANSWERS: &[u8] =
+    b"1 ok\n2 ok\n3 ok\n4 granted\n5 granted\n6 granted\n7 waits\n8 waits\n9 waits\n10 ok\n10 recall 3 10\n10 recall 2 10\n10 wake 1 11\n11 refused 5\n12 ok\n13 refused 3\n14 ok\n";
 
 #[test]
 fn a_book_of_chosen_words_is_served(rt: HostRuntime) -> Result<(), Fail> {
@@ -57,7 +59,13 @@ fn a_book_of_chosen_words_is_served(rt: HostRuntime) -> Result<(), Fail> {
     let chosen = choose(detection, table, order);
     assert!(&rt; chosen.is_ok());
     if let Ok(setting) = chosen {
-        let out = transcript(setting.table, setting.order, setting.detection, &[CALLS], rt.alloc())?;
+        let out = transcript(
+            setting.table,
+            setting.order,
+            setting.detection,
+            &[CALLS],
+            rt.alloc(),
+        )?;
         assert_eq!(&rt; out.as_slice(), ANSWERS);
     }
     Ok(())

@@ -38,8 +38,8 @@ correct_lines =
     ∷ read_as (codes "S") (Ok Sweep)
     ∷ []
 
--- lines that are not correct: 33 bytes, no byte, no letter, a field too few, one too many, a leading
--- 0, seven digits, two spaces, a space at the end
+-- lines that are not correct: 33 bytes, no byte, no letter, a field too few, one too many,
+-- a leading 0, seven digits, two spaces, a space at the end
 abbrev pub wrong_lines : List LineRead
 wrong_lines =
     read_as (83 ∷ replicate 32 32) (Err TooLong)

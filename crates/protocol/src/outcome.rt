@@ -79,8 +79,8 @@ fn put_report(number: u32, report: &Report, out: &mut TextBuffer)
     requires { length out.old ≤ ROOM }
     ensures puts { out.new ≡ put_behind out.old
         (report_lines number (recalled_entries report.now) (woken_entries report.now)) }
-    ensures short {
-        length (report_lines number (recalled_entries report.now) (woken_entries report.now)) ≤ 1792 }
+    ensures short { length (report_lines number
+        (recalled_entries report.now) (woken_entries report.now)) ≤ 1792 }
 {
     let recalled = (report.recalled as usize).min(DISPATCHES);
     let named = (recalled + report.woken as usize).min(DISPATCHES);

@@ -106,7 +106,7 @@ module _ {T O : Type 0} {tm : _} (u : T → Relations) (o : O → Order) where
       → StandsAfter c detection input printed c
       → left ≡ Some bytes
       → (text : List ℕ) × Appends was is text
-          × TranscriptBy c detection (input ++ bytes) (printed ++ text)
+      × TranscriptBy c detection (input ++ bytes) (printed ++ text)
 
   -- whether the console has answered the last line that is read, whatever it has read
   abbrev pub TellsStop : Console T O tm → Bool → Type 0

@@ -30,8 +30,8 @@ module _ (u : Relations) (o : Order) where
     -- a correct line is carried out as the model says
     carried : number < LAST_LINE → (c : Call) → Reading line (Ok c)
         → Gives number s line
-            (answer (step u o s c).answer)
-            (step u o s c).recalls (step u o s c).wakes (step u o s c).state
+        (answer (step u o s c).answer)
+        (step u o s c).recalls (step u o s c).wakes (step u o s c).state
 
   -- what is printed for the line of a number in a state, and the state left; after the last line
   -- reading has stopped

@@ -94,7 +94,7 @@ impl<T: UseTable, O: RecallOrder> Console<T, O> {
     pub fn has_stopped(&self) -> bool
         ensures { TellsStop T.meaning O.meaning self.now result }
     {
-        self.answered == LAST_LINE
+        self.answered >= LAST_LINE
     }
 
     // Reads a line, whose number is that of the answers, as a call, and carries it out.
@@ -154,8 +154,7 @@ impl<T: UseTable, O: RecallOrder> Console<T, O> {
     /// answers the line if it has come to its end. Says how many bytes it took.
     pub fn take(&mut self, piece: &[u8], printed: &mut TextBuffer) -> usize
         ensures taken { result ≡ line_length piece.now }
-        ensures read {
-            Reads T.meaning O.meaning self.old self.new (take result piece.now) printed.new }
+        ensures read { Reads T.meaning O.meaning self.old self.new (take result piece.now) printed.new }
         ensures policy { self.new.book.policy ≡ self.old.book.policy }
     {
         let count = before_line_end(piece);

@@ -22,4 +22,3 @@ loop-count-preserved c =
     let i = c.loop-count.count in
     let is : is_ascii_digit (get_or text i 0) ≡ true = sym c.is_ascii_digit.ensures.value ∙ c.if-not-is_ascii_digit.false in
     (digits_next text i inv.0 (omega arith) is, let more = value_next text i (omega arith) is in omega (arith, inv.1))
-
