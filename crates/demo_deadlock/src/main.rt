@@ -4,11 +4,10 @@
 // dock, and prints each call with its answer and its report.
 use book::book::Book;
 use model::call::Call;
-use model::report::Report;
+use model::report::{Report, ReportEntries, ReportEntry};
 use model::state::Detection;
 use orders::single::Newest;
 use std::io;
-use std::iter::repeat_n;
 use uses::two_uses::{MOVE, TwoUses};
 use words::Sentence;
 
@@ -95,13 +94,10 @@ const AFTER: [Call; 6] = [
     Call::Close { dispatch: B },
 ];
 
-// Prints whom a call recalled and whom it woke. The recalled stand in the first places of a report, and
-// the woken in the next.
-fn print_report(rt: &impl Print, report: &Report) -> io::Result<()> {
-    let recalled = repeat_n("recalled:", report.recalled as usize);
-    let woken = repeat_n("goes on: ", report.woken as usize);
-    let named = report.dispatches.iter().zip(&report.sections);
-    for (what, (dispatch, section)) in recalled.chain(woken).zip(named) {
+// Prints a line for each that a report names as recalled, or as woken.
+fn print_entries(rt: &impl Print, what: &str, entries: ReportEntries<'_>) -> io::Result<()> {
+    for entry in entries {
+        let ReportEntry { dispatch, section } = entry;
         println!(rt; "  {what} dispatch {dispatch}, which waited for dock {section}")?;
     }
     Ok(())
@@ -115,7 +111,8 @@ fn play(rt: &impl Print, book: &mut Book<TwoUses, Newest>, call: Call) -> io::Re
         Ok(answer) => println!(rt; "{sentence}: {answer}")?,
         Err(refusal) => println!(rt; "{sentence}: {refusal}")?,
     }
-    print_report(rt, &report)
+    print_entries(rt, "recalled:", report.recalls())?;
+    print_entries(rt, "goes on: ", report.wakes())
 }
 
 // Carries the calls out, one after another.
