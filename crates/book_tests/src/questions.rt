@@ -1,7 +1,6 @@
 // The three questions, on a small book.
 use crate::trial::{Trial, claim};
-use book::answer::{Answer, Refusal};
-use book::answer::Status;
+use book::answer::{Answer, Refusal, Status};
 use dispatch_set::DispatchSet;
 use model::state::{Condition, Detection};
 use std::process::Abort;

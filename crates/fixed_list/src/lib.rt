@@ -98,7 +98,9 @@ impl<X: Copy, const N: usize> FixedList<X, N> {
     // written are counted here.
     pub fn retain<F: Fn(&X) -> bool>(&mut self, test: F)
         requires { F.IsAlwaysCallable test }
-        ensures { (passes : X → Bool) → ((x : X) (answer : Bool) → FnReturnsAt F.Fn test x answer → answer ≡ passes x) → self.new ≡ filter passes self.old }
+        ensures { (passes : X → Bool)
+            → ((x : X) (answer : Bool) → FnReturnsAt F.Fn test x answer → answer ≡ passes x)
+            → self.new ≡ filter passes self.old }
     {
         let mut remaining = 0;
         for i in 0..self.count {

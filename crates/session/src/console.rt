@@ -154,7 +154,8 @@ impl<T: UseTable, O: RecallOrder> Console<T, O> {
     /// answers the line if it has come to its end. Says how many bytes it took.
     pub fn take(&mut self, piece: &[u8], printed: &mut TextBuffer) -> usize
         ensures taken { result ≡ line_length piece.now }
-        ensures read { Reads T.meaning O.meaning self.old self.new (take result piece.now) printed.new }
+        ensures read { Reads T.meaning O.meaning self.old self.new (take result piece.now)
+            printed.new }
         ensures policy { self.new.book.policy ≡ self.old.book.policy }
     {
         let count = before_line_end(piece);
@@ -186,7 +187,8 @@ impl<T: UseTable, O: RecallOrder> Console<T, O> {
         ensures read { OnOk result
             (ReadsAll T.meaning O.meaning self.old self.new piece.now out.old.items out.new.items) }
         ensures failed { OnErr result
-            (LosesAnswer T.meaning O.meaning self.old self.new piece.now out.old.items out.new.items) }
+            (LosesAnswer T.meaning O.meaning self.old self.new piece.now
+            out.old.items out.new.items) }
         ensures policy { self.new.book.policy ≡ self.old.book.policy }
     {
         let mut printed = TextBuffer::new();

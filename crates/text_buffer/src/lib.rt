@@ -28,7 +28,8 @@ impl Model for TextBuffer {
 
     ghost view = { λ p. take p.count p.bytes };
 
-    ghost invariant = { λ p. (p.count ≤ ROOM) × (drop p.count p.bytes ≡ replicate (ROOM - p.count) 0) };
+    ghost invariant = { λ p. (p.count ≤ ROOM)
+        × (drop p.count p.bytes ≡ replicate (ROOM - p.count) 0) };
 }
 
 impl TextBuffer {

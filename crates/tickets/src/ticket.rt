@@ -62,8 +62,8 @@ impl Ticket {
         mode: u32,
         report: &mut Report,
     ) -> Result<Answer, Refusal>
-        ensures { CountsAs T.meaning O.meaning book.old (ClaimCall (dispatch_of self.now) section mode)
-            result report.new book.new }
+        ensures { CountsAs T.meaning O.meaning book.old
+            (ClaimCall (dispatch_of self.now) section mode) result report.new book.new }
     {
         let asked = Call::Claim {
             dispatch: self.dispatch,
@@ -82,7 +82,8 @@ impl Ticket {
         book: &mut Book<T, O>,
         report: &mut Report,
     ) -> Result<Ending, Refusal>
-        ensures ended { result ≡ hand_in_answer (condition_in T.meaning book.old (dispatch_of self)) }
+        ensures ended { result
+            ≡ hand_in_answer (condition_in T.meaning book.old (dispatch_of self)) }
         ensures counts { CountsAs T.meaning O.meaning book.old
             (hand_in_call (condition_in T.meaning book.old (dispatch_of self)) (dispatch_of self))
             (book_answer result) report.new book.new }
@@ -100,7 +101,8 @@ impl Ticket {
         condition: Condition,
         report: &mut Report,
     ) -> Result<Ending, Refusal>
-        ensures { EndsBy T.meaning O.meaning book.old condition dispatch result report.new book.new }
+        ensures { EndsBy T.meaning O.meaning book.old condition dispatch result
+            report.new book.new }
     {
         match condition {
             Condition::Running => book.close(dispatch, report).and(Ok(Ending::Closed)),
