@@ -66,8 +66,8 @@ impl<T: UseTable, O> Book<T, O> {
         self.tables.recalled
     }
 
-    /// The claims, in order of arrival: at most 512. A claim waits behind those before it on its
-    /// section that conflict with it.
+    /// The claims, in order of arrival: at most 512. A claim waits behind those of other dispatches
+    /// before it on its section whose uses conflict with its own.
     pub fn claims(&self) -> &[Claim]
         ensures { result.now ≡ (state_of self.now).claims }
     {

@@ -127,7 +127,7 @@ impl fmt::Display for DispatchSet {
     }
 }
 
-/// As [`fmt::Display`].
+/// `{:?}` writes what `{}` writes.
 impl fmt::Debug for DispatchSet {
     fn fmt<W: fmt::Write>(&self, f: &mut fmt::Formatter<W>) -> fmt::Result {
         f.debug_set().entries(self.iter()).finish()

@@ -112,7 +112,7 @@ module _ (u : Relations) (o : Order) where
 
   -- the law over runs
   pub record Law (r : Run) : Type 0 where
-    -- exclusion: two open dispatches never hold grants, since opening, whose uses conflict
+    -- exclusion: two open dispatches never hold grants of one section whose uses conflict
     pub exclusion : EachMoment Exclusion r
     -- progress: waits end
     pub progress : EachCall Progress r

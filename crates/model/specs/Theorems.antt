@@ -15,7 +15,7 @@ use Rattle.model.specs.Law.{Law}
 use Rattle.model.specs.Examples.{examples, IsRight}
 use Rattle.model.specs.declared.call.Call.{Call}
 use Rattle.model.specs.declared.call.Call.TheVariants as call
-use Rattle.model.specs.declared.limits.TheConstants.{DISPATCHES, CLAIMS}
+use Rattle.model.specs.declared.limits.TheConstants.{DISPATCHES, SECTIONS, CLAIMS, HEAVIEST}
 use Rattle.model.specs.declared.state.Claim.{Claim}
 use Rattle.model.specs.declared.state.Detection.{Detection}
 
@@ -69,6 +69,13 @@ RefusedWhenFull =
     (u : Relations) (o : Order) (s : State) → Invariant u s → (d section mode : ℕ)
     → (step u o s (call.Claim d section mode)).answer ≡ answer_refused 9
     → length s.claims ≡ CLAIMS
+
+-- the limits that the definitions cite from the code are those of the rules
+pub record LimitsRight : Type 0 where
+  pub dispatches : DISPATCHES ≡ 64
+  pub sections : SECTIONS ≡ 1024
+  pub claims : CLAIMS ≡ 512
+  pub heaviest : HEAVIEST ≡ 1000
 
 -- a claim that nothing blocks adds no step of waiting
 abbrev pub NoNewStep : Type 0

@@ -1,6 +1,6 @@
 // The theorems. Each function does nothing: its contract is what is proved, for every use table and
 // every recall order that keeps its laws.
-ghost use Rattle.model.specs.Theorems.{LawOverRuns, InvariantKept, CycleTestExact};
+ghost use Rattle.model.specs.Theorems.{LimitsRight, LawOverRuns, InvariantKept, CycleTestExact};
 ghost use Rattle.model.specs.Theorems.{StepsLeadToOpen, FirstExact, ReportFits, RefusedWhenFull};
 ghost use Rattle.model.specs.Theorems.{NoNewStep, ExamplesRight};
 ghost use Rattle.model.specs.LawExamples.{LawExamplesRight};
@@ -34,6 +34,11 @@ pub fn report_fits()
 /// A claim is refused for want of room only where 512 claims stand.
 pub fn refused_when_full()
     ensures { RefusedWhenFull }
+{}
+
+/// The limits are 64 dispatches, 1024 sections, 512 claims and a weight of 1000.
+pub fn limits_are_right()
+    ensures { LimitsRight }
 {}
 
 /// A claim that nothing blocks adds no step of waiting, so it closes no cycle.

@@ -1,5 +1,5 @@
 -- The worked examples are right.
-use Rattle.std.proofs.Common.{[], ◌∷◌, codes, refl, inl, arith}
+use Rattle.std.proofs.Common.{[], ◌∷◌, codes, replicate, refl, inl, arith}
 use Rattle.std.specs.List.{AllByRecursion}
 use Rattle.std.specs.Fmt.{digits}
 use Rattle.protocol.specs.Words.{printed}
@@ -33,20 +33,23 @@ all_wrong : AllByRecursion IsRead wrong_lines
 all_wrong = (
   reads_long _ _ refl (omega arith),
   (
-    reads_empty [] _ refl refl,
+    reads_wrong spells_sweep 83 (replicate 31 32) _ refl (omega arith) (came_end (replicate 31 32) [] (replicate 31 32) 2 0 _ (came_start (replicate 31 32)) refl (omega arith) refl),
     (
-      reads_other 115 [] _ refl (omega arith) (λ e. omega (arith, e)) (λ e. omega (arith, e)) (λ e. omega (arith, e)) (λ e. omega (arith, e)) (λ e. omega (arith, e)) (λ e. omega (arith, e)),
+      reads_empty [] _ refl refl,
       (
-        reads_wrong spells_open 79 (codes " 1") _ refl (omega arith) few_fields,
+        reads_other 115 [] _ refl (omega arith) (λ e. omega (arith, e)) (λ e. omega (arith, e)) (λ e. omega (arith, e)) (λ e. omega (arith, e)) (λ e. omega (arith, e)) (λ e. omega (arith, e)),
         (
-          reads_wrong spells_close 69 (codes " 1 2") _ refl (omega arith) more_fields,
+          reads_wrong spells_open 79 (codes " 1") _ refl (omega arith) few_fields,
           (
-            reads_wrong spells_open 79 (codes " 01 5") _ refl (omega arith) leading_zero,
+            reads_wrong spells_close 69 (codes " 1 2") _ refl (omega arith) more_fields,
             (
-              reads_wrong spells_withdraw 87 (codes " 1234567") _ refl (omega arith) seven_digits,
+              reads_wrong spells_open 79 (codes " 01 5") _ refl (omega arith) leading_zero,
               (
-                reads_wrong spells_acknowledge 65 (codes "  1") _ refl (omega arith) two_spaces,
-                (reads_wrong spells_sweep 83 (codes " ") _ refl (omega arith) (came_end (codes " ") [] (codes " ") 2 0 _ (came_start (codes " ")) refl (omega arith) refl), tt),
+                reads_wrong spells_withdraw 87 (codes " 1234567") _ refl (omega arith) seven_digits,
+                (
+                  reads_wrong spells_acknowledge 65 (codes "  1") _ refl (omega arith) two_spaces,
+                  (reads_wrong spells_sweep 83 (codes " ") _ refl (omega arith) (came_end (codes " ") [] (codes " ") 2 0 _ (came_start (codes " ")) refl (omega arith) refl), tt),
+                ),
               ),
             ),
           ),

@@ -38,11 +38,12 @@ correct_lines =
     ∷ read_as (codes "S") (Ok Sweep)
     ∷ []
 
--- lines that are not correct: 33 bytes, no byte, no letter, a field too few, one too many,
+-- lines that are not correct: 33 bytes, 32 bytes of spaces, no byte, no letter, a field too few, one too many,
 -- a leading 0, seven digits, two spaces, a space at the end
 abbrev pub wrong_lines : List LineRead
 wrong_lines =
     read_as (83 ∷ replicate 32 32) (Err TooLong)
+    ∷ read_as (83 ∷ replicate 31 32) (Err (WrongForm 2))
     ∷ read_as [] (Err NoLetter)
     ∷ read_as (codes "s") (Err NoLetter)
     ∷ read_as (codes "O 1") (Err (WrongForm 4))

@@ -9,7 +9,7 @@ use model::call::Call;
 /// The most bytes that a line may have, its byte 10 not counted.
 pub const LONGEST_LINE: usize = 32;
 
-/// Reads a line, without its byte 10, as a call. Any other line is a fault: it is too long, begins
+/// Reads a line, without its byte 10, as a call. A line that is no call's is a fault: too long, begins
 /// with no call letter, or has a wrong form.
 #[inline(always)]
 pub fn read_call(line: &[u8]) -> Result<Call, Fault>

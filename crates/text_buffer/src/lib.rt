@@ -54,7 +54,7 @@ impl TextBuffer {
     /// All 2048 places: the printed bytes, and 0 after them.
     pub fn bytes(&self) -> &[u8]
         ensures shown { result.now ≡ places self.now }
-        ensures all { length result.now ≡ ROOM }
+        ensures all { length result.now ≡ 2048 }
     {
         &self.bytes[..]
     }

@@ -122,7 +122,7 @@ impl From<Span> for u32 {
     }
 }
 
-/// The span of a use code; an error where the code is not that of a span.
+/// The span of a use code; an error where the code is not that of a span with at least one field.
 impl TryFrom<u32> for Span {
     type Error = UnknownUse;
 
