@@ -4,7 +4,7 @@
 pub mod answer;
 pub mod book;
 mod deadlock;
-pub mod open_list;
+mod open_list;
 pub mod policy;
 pub mod tables;
 mod wakes;
