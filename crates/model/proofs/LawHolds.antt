@@ -7,11 +7,11 @@ use Rattle.orders.specs.Laws.{OrderLaws}
 use Rattle.model.specs.Claims.{waits_for, dispatch_waits}
 use Rattle.model.specs.State.{State, numbers}
 use Rattle.model.specs.Recalling.{Order}
-use Rattle.model.specs.Calls.{Effect, checks, refusal, effect_by, step}
+use Rattle.model.specs.Calls.{Effect, Outcome, checks, refusal, effect_by, step}
 use Rattle.model.specs.Invariant.{WellFormed, Invariant, NoCycle}
-use Rattle.model.specs.Runs.{Run, start, next, at, EachMoment, EachCall}
+use Rattle.model.specs.Runs.{Run, start, next, at, outcome, EachMoment, EachCall}
 use Rattle.model.specs.Graph.{HasCycle, LeadsInto, end_of}
-use Rattle.model.specs.Law.{Exclusion, WaitsEnd, Progress, IsRightVictim, RecallWhen, RecallWhom, EntersClaim, once_entered, once_recalled, Law}
+use Rattle.model.specs.Law.{Exclusion, WaitsEnd, Progress, IsRightVictim, RecallWhen, RecallWhom, EntersClaim, once_entered, once_recalled, EachOutcome, Law}
 use Rattle.model.specs.declared.call.Call.{Call}
 use Rattle.model.specs.declared.call.Call.TheVariants as call
 use Rattle.model.specs.declared.report.ReportEntry.{ReportEntry}
@@ -88,15 +88,18 @@ module _ (u : Relations) (laws : UseLaws u) (o : Order) (lawful : OrderLaws o) (
   abbrev looked_at : Looked u o s c e
   looked_at = looks_or_recalls_nobody u o lawful s i.well_formed c
 
-  progress : Progress u o r c
+  abbrev x : Outcome
+  x = step u o s c
+
+  progress : Progress u s c x
   unfolding step
   progress why =
       let after = step_invariant u o lawful s i c in
-      waits_end u (step u o s c).state after.well_formed
+      waits_end u x.state after.well_formed
       (⊎_elim (λ k. after.no_cycle (step_detection u o lawful s i.well_formed c ∙ k))
       (λ k. sweep_clears u o s c e looked_at k) why)
 
-  recall_when : RecallWhen u o r c
+  recall_when : RecallWhen u s c x
   unfolding step
   recall_when = record {
     by_claim = λ entry. looked_when u o s c e looked_at (inr entry);
@@ -106,7 +109,7 @@ module _ (u : Relations) (laws : UseLaws u) (o : Order) (lawful : OrderLaws o) (
     by_no_other = looked_only u o s c e looked_at;
   }
 
-  recall_whom : RecallWhom u o r c
+  recall_whom : RecallWhom u o s c x
   unfolding step
   recall_whom = looked_right u o s c e looked_at
 
@@ -121,11 +124,18 @@ module _ (u : Relations) (laws : UseLaws u) (o : Order) (lawful : OrderLaws o) w
   each_call P always (start detection) = tt
   each_call P always (next r c) = (each_call P always r, always r c)
 
+  -- the same, of the state before it and what it gives
+  each_outcome :
+      (P : State → Call → Outcome → Type 0)
+      → ((r : Run) (c : Call) → P (at u o r) c (outcome u o r c))
+      → (r : Run) → EachOutcome u o P r
+  each_outcome P always r = each_call (λ r c. P (at u o r) c (outcome u o r c)) always r
+
   -- the law holds of every run
   pub law : (r : Run) → Law u o r
   law r = record {
     exclusion = each_moment (Exclusion u o) (exclusion u laws o lawful) r;
-    progress = each_call (Progress u o) (progress u laws o lawful) r;
-    recall_when = each_call (RecallWhen u o) (recall_when u laws o lawful) r;
-    recall_whom = each_call (RecallWhom u o) (recall_whom u laws o lawful) r;
+    progress = each_outcome (Progress u) (progress u laws o lawful) r;
+    recall_when = each_outcome (RecallWhen u) (recall_when u laws o lawful) r;
+    recall_whom = each_outcome (RecallWhom u o) (recall_whom u laws o lawful) r;
   }

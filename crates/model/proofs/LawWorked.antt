@@ -1,20 +1,23 @@
 -- The examples of the law are right.
-use Rattle.std.proofs.Common.{◌≡◌, ℕ, zero, suc, Bool, true, List, [], ◌∷◌, refl, sym, arith, rules}
-use Rattle.std.proofs.lemmas.Bool.{false≢true}
+use Rattle.std.proofs.Common.{◌≡◌, ℕ, zero, suc, Bool, true, ◌&&◌, List, [], ◌∷◌, refl, sym, inl, inr, ⊎_elim, arith, rules}
+use Rattle.std.proofs.lemmas.Bool.{false≢true, and_parts}
 use Rattle.uses.specs.Relations.{UseLaws}
 use Rattle.uses.specs.TwoUses.{two_uses}
 use Rattle.orders.specs.Laws.{OrderLaws}
 use Rattle.orders.specs.Orders.{newest}
-use Rattle.model.specs.Graph.{closure, Chain}
+use Rattle.model.specs.Graph.{OnCycle, HasCycle, closure, Chain}
+use Rattle.model.specs.Graph.Leads.{one, more}
 use Rattle.model.specs.Claims.{waits_for}
 use Rattle.model.specs.Recalling.{on_cycles, recall_result_within, recall_result}
 use Rattle.model.specs.Calls.{step}
-use Rattle.model.specs.Runs.{at, Grants, by_grant, by_cover, by_wake, HasGrant, just_now, before}
-use Rattle.model.specs.Law.{Exclusion, WaitsEnd}
+use Rattle.model.specs.Runs.{Run, start, next, at, Grants, by_grant, by_cover, by_wake, HasGrant, just_now, before}
+use Rattle.model.specs.Invariant.{Invariant}
+use Rattle.model.specs.Law.{Exclusion, IsRunning, WaitsEnd}
 use Rattle.model.specs.Examples.{look, move}
-use Rattle.model.specs.LawExamples.{LawExamplesRight, one_waits_run, two_stations_run, covered_run, one_sided, one_sided_run}
+use Rattle.model.specs.LawExamples.{LawExamplesRight, two_docks_run, one_waits_run, two_stations_run, covered_run, one_sided, one_sided_run, deadlock, queue_of, behind_nobody, entry, BreaksProgress, WrongTime, WrongOnes}
 use Rattle.model.proofs.LawHolds.{law}
-use Rattle.model.specs.declared.call.Call.TheVariants.{Claim}
+use Rattle.model.proofs.Steps.{new_invariant, step_invariant}
+use Rattle.model.specs.declared.call.Call.TheVariants.{Open, Claim, Close, Sweep}
 use Rattle.model.specs.declared.state.Detection.TheVariants.{Continuous, Periodic}
 
 by_answer : HasGrant two_uses newest (two_stations_run Continuous) 1 10 move
@@ -43,14 +46,14 @@ unfolding step closure on_cycles recall_result_within recall_result
 not_recalled (just_now g stays) = false≢true stays
 not_recalled (before g stays) = false≢true stays
 
+laws : UseLaws two_uses
+laws = search rules
+
+order : OrderLaws newest
+order = search rules
+
 not_waiting : ¬ HasGrant two_uses newest (two_stations_run Periodic) 1 11 move
 not_waiting h = false≢true (sym ((law two_uses laws newest order (two_stations_run Periodic)).exclusion.1 1 2 11 move move (λ e. omega (arith, e)) h by_closing))
-  where
-    laws : UseLaws two_uses
-    laws = search rules
-
-    order : OrderLaws newest
-    order = search rules
 
 -- 2, 1, 2, 1 and so on
 abbrev around : ℕ → List ℕ
@@ -62,17 +65,131 @@ goes_round : (r : ℕ → ℕ → Bool) → r 1 2 ≡ true → r 2 1 ≡ true �
 goes_round r there back zero = tt
 goes_round r there back (suc n) = (there, (back, goes_round r there back n))
 
-waits_go_on : ¬ WaitsEnd two_uses (at two_uses newest (two_stations_run Periodic))
+waits_go_on : ¬ WaitsEnd two_uses deadlock
 unfolding step closure on_cycles recall_result_within recall_result
-waits_go_on h = omega (arith, h.short 1 (around 32) (refl, goes_round (waits_for two_uses (at two_uses newest (two_stations_run Periodic)).claims) refl refl 32))
+waits_go_on h = omega (arith, h.short 1 (around 32) (refl, goes_round (waits_for two_uses deadlock.claims) refl refl 32))
+
+waiting : ¬ IsRunning two_uses (at two_uses newest (one_waits_run Continuous)) 1
+unfolding step closure on_cycles recall_result_within recall_result
+waiting h = false≢true (sym h.1)
+
+-- the number before, the one before that, and so on to 0
+abbrev below : ℕ → List ℕ
+below zero = []
+below (suc n) = n ∷ below n
+
+-- the test whether numbers are a chain
+abbrev is_chain : (ℕ → ℕ → Bool) → ℕ → List ℕ → Bool
+is_chain r a [] = true
+is_chain r a (b ∷ bs) = r a b && is_chain r b bs
+
+chain_by_test : (r : ℕ → ℕ → Bool) (a : ℕ) (bs : List ℕ) → is_chain r a bs ≡ true → Chain r a bs
+chain_by_test r a [] h = tt
+chain_by_test r a (b ∷ bs) h = let parts = and_parts (r a b) (is_chain r b bs) h in (parts.0, chain_by_test r b bs parts.1)
+
+too_long : ¬ WaitsEnd two_uses (queue_of 65)
+too_long h = omega (arith, h.short 64 (below 64) (refl, chain_by_test (waits_for two_uses (queue_of 65).claims) 64 (below 64) refl))
+
+ends_nowhere : ¬ WaitsEnd two_uses behind_nobody
+ends_nowhere h = false≢true (h.ends_running 1 (2 ∷ []) (refl, (refl, tt)) (λ f. refl)).0
+
+after_claim : BreaksProgress (one_waits_run Continuous) (Claim 2 10 move)
+unfolding step closure on_cycles recall_result_within recall_result
+after_claim h = waits_go_on (h (inl refl))
+
+after_opening : BreaksProgress (one_waits_run Continuous) (Open 3 5)
+unfolding step closure on_cycles recall_result_within recall_result
+after_opening h = waits_go_on (h (inl refl))
+
+after_sweep : BreaksProgress (two_stations_run Periodic) Sweep
+after_sweep h = waits_go_on (h (inr refl))
+
+-- the invariant holds at the end of every run
+sound : (r : Run) → Invariant two_uses (at two_uses newest r)
+sound (start detection) = new_invariant two_uses detection
+sound (next r c) = step_invariant two_uses newest order (at two_uses newest r) (sound r) c
+
+-- no cycle stands at the end of the run in which only one waits
+no_cycle : ¬ HasCycle (waits_for two_uses (at two_uses newest (one_waits_run Continuous)).claims)
+unfolding step closure on_cycles recall_result_within recall_result
+no_cycle cycle = (sound (one_waits_run Continuous)).no_cycle refl cycle.0 cycle.1
+
+waits_alone : WrongTime (two_docks_run Continuous) (Claim 1 11 move) (1 ∷ [])
+unfolding step closure on_cycles recall_result_within recall_result
+waits_alone h = no_cycle ((h.by_claim (refl, tt)).0 (λ e. cc))
+
+-- the two stations are on a cycle
+around_two : OnCycle (waits_for two_uses deadlock.claims) 2
+unfolding step closure on_cycles recall_result_within recall_result
+around_two = more {b = 1} refl (one refl)
+
+closes_cycle : WrongTime (one_waits_run Continuous) (Claim 2 10 move) []
+unfolding step closure on_cycles recall_result_within recall_result
+closes_cycle h = (h.by_claim (refl, tt)).1 (2, around_two) refl
+
+sweeps_none : WrongTime (one_waits_run Continuous) Sweep (1 ∷ [])
+unfolding step closure on_cycles recall_result_within recall_result
+sweeps_none h = no_cycle ((h.by_sweep refl).0 (λ e. cc))
+
+sweeps_cycle : WrongTime (two_stations_run Periodic) Sweep []
+sweeps_cycle h = (h.by_sweep refl).1 (2, around_two) refl
+
+too_early : WrongTime (one_waits_run Periodic) (Claim 2 10 move) (2 ∷ [])
+unfolding step closure on_cycles recall_result_within recall_result
+too_early h = ⊎_elim (λ e. cc) (λ entry. absurd (periodic entry.0)) (h.by_no_other (λ e. cc))
+  where
+    periodic : Periodic ≡ Continuous → ⊥
+    periodic e = cc
+
+covered : WrongTime (one_waits_run Continuous) (Claim 2 11 look) (1 ∷ [])
+unfolding step closure on_cycles recall_result_within recall_result
+covered h = ⊎_elim (λ e. cc) (λ entry. entry.1) (h.by_no_other (λ e. cc))
+
+closes : WrongTime (one_waits_run Continuous) (Close 2) (1 ∷ [])
+unfolding step closure on_cycles recall_result_within recall_result
+closes h = ⊎_elim (λ e. cc) (λ entry. entry.1) (h.by_no_other (λ e. cc))
+
+off_cycle : WrongOnes (two_docks_run Continuous) (Claim 1 11 move) (1 ∷ [])
+unfolding step closure on_cycles recall_result_within recall_result
+off_cycle h = no_cycle (1, (h [] [] (entry 1) refl).on_cycle)
+
+older : WrongOnes (one_waits_run Continuous) (Claim 2 10 move) (1 ∷ [])
+unfolding step closure on_cycles recall_result_within recall_result
+older h = false≢true (sym ((h [] [] (entry 1) refl).none_before 2 around_two))
+
+one_more : WrongOnes (one_waits_run Continuous) (Claim 2 10 move) (2 ∷ 1 ∷ [])
+unfolding step closure on_cycles recall_result_within recall_result
+one_more h = (sound (two_stations_run Continuous)).no_cycle refl 1 (h (entry 2 ∷ []) [] (entry 1) refl).on_cycle
 
 pub law_examples_right : LawExamplesRight
 law_examples_right = record {
-  by_answer = by_answer;
-  by_waking = by_waking;
-  by_covering = by_covering;
-  not_recalled = not_recalled;
-  not_waiting = not_waiting;
-  exclusion_broken = exclusion_broken;
-  waits_go_on = waits_go_on;
+  grants = record {
+    by_answer = by_answer;
+    by_waking = by_waking;
+    by_covering = by_covering;
+    not_recalled = not_recalled;
+    not_waiting = not_waiting;
+    exclusion_broken = exclusion_broken;
+  };
+  waits = record {
+    waiting = waiting;
+    waits_go_on = waits_go_on;
+    too_long = too_long;
+    ends_nowhere = ends_nowhere;
+    after_claim = after_claim;
+    after_opening = after_opening;
+    after_sweep = after_sweep;
+  };
+  recalls = record {
+    waits_alone = waits_alone;
+    closes_cycle = closes_cycle;
+    sweeps_none = sweeps_none;
+    sweeps_cycle = sweeps_cycle;
+    too_early = too_early;
+    covered = covered;
+    closes = closes;
+    off_cycle = off_cycle;
+    older = older;
+    one_more = one_more;
+  };
 }

@@ -6,7 +6,7 @@ use Rattle.model.specs.Graph.{OnCycle, HasCycle, Chain, end_of}
 use Rattle.model.specs.Claims.{dispatch_waits, waits_for}
 use Rattle.model.specs.State.{State, is_open, recall, state_with_claim}
 use Rattle.model.specs.Recalling.{Order, strictly_before}
-use Rattle.model.specs.Calls.{ModelAnswer, answer_granted, answer_waits, answer_recalled, claim_of}
+use Rattle.model.specs.Calls.{ModelAnswer, answer_granted, answer_waits, answer_recalled, claim_of, Outcome}
 use Rattle.model.specs.Runs.{Run, at, outcome, EachMoment, EachCall, HasGrant}
 use Rattle.model.specs.declared.call.Call.{Call}
 use Rattle.model.specs.declared.call.Call.TheVariants as call
@@ -55,41 +55,39 @@ module _ (u : Relations) (s : State) where
     pub ends_running :
         (d : ℕ) (es : List ℕ) → ChainOfWaits d es → IsComplete d es → IsRunning (end_of d es)
 
-module _ (u : Relations) (o : Order) where
-  -- where two different dispatches have grants of one section, since opening, the uses do not
-  -- conflict
-  abbrev pub Exclusion : Run → Type 0
-  Exclusion r =
-      (d e section mode_d mode_e : ℕ) → d ≢ e
-      → HasGrant u o r d section mode_d → HasGrant u o r e section mode_e
-      → u.conflict mode_d mode_e ≡ false
+-- where two different dispatches have grants of one section, since opening, the uses do not conflict
+abbrev pub Exclusion : Relations → Order → Run → Type 0
+Exclusion u o r =
+    (d e section mode_d mode_e : ℕ) → d ≢ e
+    → HasGrant u o r d section mode_d → HasGrant u o r e section mode_e
+    → u.conflict mode_d mode_e ≡ false
 
-  -- waits end after every call of a continuous run, and after every sweep of a periodic one
-  abbrev pub Progress : Run → Call → Type 0
-  Progress r c =
-      ((at u o r).detection ≡ Continuous) ⊎ (c ≡ call.Sweep) → WaitsEnd u (outcome u o r c).state
+-- below, `before` is the state before a call, and `x` what the call gives
+module _ (u : Relations) (before : State) (c : Call) (x : Outcome) where
+  -- waits end after every call to a continuous book, and after every sweep of a periodic one
+  abbrev pub Progress : Type 0
+  Progress = (before.detection ≡ Continuous) ⊎ (c ≡ call.Sweep) → WaitsEnd u x.state
 
   -- the call recalls somebody
-  abbrev pub RecallsSomebody : Run → Call → Type 0
-  RecallsSomebody r c = (outcome u o r c).recalls ≢ []
+  abbrev pub RecallsSomebody : Type 0
+  RecallsSomebody = x.recalls ≢ []
 
-  -- the call enters a claim, and the run is continuous
-  abbrev pub IsContinuousEntry : Run → Call → Type 0
-  IsContinuousEntry r c =
-      ((at u o r).detection ≡ Continuous) × EntersClaim c (outcome u o r c).answer
+  -- the call enters a claim, and the book is continuous
+  abbrev pub IsContinuousEntry : Type 0
+  IsContinuousEntry = (before.detection ≡ Continuous) × EntersClaim c x.answer
 
   -- when a call recalls somebody
-  pub record RecallWhen (r : Run) (c : Call) : Type 0 where
-    -- an entry in a continuous run: exactly when a cycle stands once the claim is entered
+  pub record RecallWhen : Type 0 where
+    -- an entry in a continuous book: exactly when a cycle stands once the claim is entered
     pub by_claim :
-        IsContinuousEntry r c
-        → (RecallsSomebody r c ↔ HasCycle (waits_for u (once_entered c (at u o r)).claims))
+        IsContinuousEntry
+        → (RecallsSomebody ↔ HasCycle (waits_for u (once_entered c before).claims))
     -- a sweep, in either detection: exactly when a cycle stood before it
-    pub by_sweep :
-        c ≡ call.Sweep → (RecallsSomebody r c ↔ HasCycle (waits_for u (at u o r).claims))
+    pub by_sweep : c ≡ call.Sweep → (RecallsSomebody ↔ HasCycle (waits_for u before.claims))
     -- no other call
-    pub by_no_other : RecallsSomebody r c → (c ≡ call.Sweep) ⊎ IsContinuousEntry r c
+    pub by_no_other : RecallsSomebody → (c ≡ call.Sweep) ⊎ IsContinuousEntry
 
+module _ (u : Relations) (o : Order) where
   -- the right dispatch to recall in a state: a deadlock victim, the first by the recall order
   pub record IsRightVictim (s : State) (d : ℕ) : Type 0 where
     -- it is on a cycle of waits
@@ -98,25 +96,24 @@ module _ (u : Relations) (o : Order) where
     pub none_before :
         (e : ℕ) → OnCycle (waits_for u s.claims) e → strictly_before u o s e d ≡ false
 
-  -- the state just before a recall: the call's claim, if it has one, is entered, and those whom
-  -- the call recalled earlier are gone
-  abbrev pub just_before : Run → Call → List ReportEntry → State
-  just_before r c earlier = once_recalled earlier (once_entered c (at u o r))
+  -- whom a call recalls: each was the right one just before its recall, with the call's claim, if it
+  -- has one, entered, and those gone whom the call recalled earlier
+  abbrev pub RecallWhom : State → Call → Outcome → Type 0
+  RecallWhom before c x =
+      (earlier later : List ReportEntry) (n : ReportEntry) → x.recalls ≡ earlier ++ n ∷ later
+      → IsRightVictim (once_recalled earlier (once_entered c before)) n.dispatch
 
-  -- whom a call recalls: each was the right one just before its recall
-  abbrev pub RecallWhom : Run → Call → Type 0
-  RecallWhom r c =
-      (earlier later : List ReportEntry) (n : ReportEntry)
-      → (outcome u o r c).recalls ≡ earlier ++ n ∷ later
-      → IsRightVictim (just_before r c earlier) n.dispatch
+  -- the fact holds of every call of the run, with the state before it and what it gives
+  abbrev pub EachOutcome : (State → Call → Outcome → Type 0) → Run → Type 0
+  EachOutcome P = EachCall (λ r c. P (at u o r) c (outcome u o r c))
 
   -- the law over runs
   pub record Law (r : Run) : Type 0 where
     -- exclusion: two open dispatches never hold grants of one section whose uses conflict
-    pub exclusion : EachMoment Exclusion r
+    pub exclusion : EachMoment (Exclusion u o) r
     -- progress: waits end
-    pub progress : EachCall Progress r
+    pub progress : EachOutcome (Progress u) r
     -- recall: exactly when a claim that is entered closes a cycle, or a sweep finds one
-    pub recall_when : EachCall RecallWhen r
+    pub recall_when : EachOutcome (RecallWhen u) r
     -- recall: the right dispatch
-    pub recall_whom : EachCall RecallWhom r
+    pub recall_whom : EachOutcome RecallWhom r
