@@ -91,7 +91,7 @@ module _ (u : Relations) (laws : UseLaws u) (o : Order) (lawful : OrderLaws o) (
   progress : Progress u o r c
   unfolding step
   progress why =
-      let after = step_invariant u o lawful s i c in
+      let after = step_invariant u laws o lawful s i c in
       waits_end u (step u o s c).state after.well_formed
       (⊎_elim (λ k. after.no_cycle (step_detection u o lawful s i.well_formed c ∙ k))
       (λ k. sweep_clears u o s c e looked_at k) why)
