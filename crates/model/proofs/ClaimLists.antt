@@ -1,5 +1,5 @@
 -- Claim lists with a claim pushed, or without a dispatch: who waits, who waits for whom, and who holds what.
-use Rattle.std.proofs.Common.{◌≡◌, ℕ, ◌+◌, ◌≤◌, Bool, true, false, cond, not, ◌&&◌, ◌||◌, eqb, List, [], ◌∷◌, ◌++◌, map, length, is_some, Some, None, filter, Option, refl, ap, ◌∙◌, inl, inr, append_assoc, append-nil, arith, length-append}
+use Rattle.std.proofs.Common.{◌≡◌, ℕ, ◌+◌, ◌≤◌, Bool, true, false, cond, not, ◌&&◌, ◌||◌, eqb, List, [], ◌∷◌, ◌++◌, map, length, is_some, Some, None, filter, Option, sym, refl, ap, ◌∙◌, inl, inr, append_assoc, append-nil, arith, length-append}
 use mathlib.Core.Bool.{and_assoc, or-false}
 use Rattle.std.specs.Option.{option_map}
 use Rattle.std.proofs.lemmas.List.Elements.{filter-append}
@@ -7,8 +7,10 @@ use Rattle.std.proofs.lemmas.Bool.{and_parts, and_from, or_left, eq-eqb, not_fro
 use Rattle.std.proofs.lemmas.Bool.Decides.{nat_tests}
 use Rattle.uses.specs.Relations.{Relations, UseLaws}
 use Rattle.model.specs.Search.{any, find}
+use Rattle.model.specs.Graph.{OnCycle}
 use Rattle.model.specs.Claims.{InLine, in_line_behind, in_line, of, blocks, waits, dispatch_waits, waits_for, waiting_section, waiting_claims, is_covered, claim_waits, without}
 use Rattle.model.specs.declared.state.Claim.{Claim}
+use Rattle.model.proofs.Graphs.{leads_wider}
 use Rattle.model.proofs.Anys.{any_append, any_wider, any_map, any_found, kept_nothing, find_any}
 
 -- the claim in its place, with the claims of the dispatch taken out before it
@@ -221,3 +223,7 @@ module _ (u : Relations) where
   -- a claim that nothing blocks adds no step
   pub no_edge : (cs : List Claim) (c : Claim) → any (λ b. blocks u b c) cs ≡ false → (d e : ℕ) → waits_for u (cs ++ c ∷ []) d e ≡ waits_for u cs d e
   no_edge cs c free d e = rw (waits_for_push cs c d e) (grind (arith, blocked_waits e (record { earlier = cs; claim = c })))
+
+  -- so it closes no cycle
+  pub no_new_cycle : (cs : List Claim) (c : Claim) → dispatch_waits u cs c.dispatch ≡ false → any (λ b. blocks u b c) cs ≡ false → (d : ℕ) → OnCycle (waits_for u (cs ++ c ∷ [])) d → OnCycle (waits_for u cs) d
+  no_new_cycle cs c runs free d = leads_wider (waits_for u (cs ++ c ∷ [])) (waits_for u cs) (λ a b h. sym (no_edge cs c free a b) ∙ h)

@@ -159,6 +159,6 @@ module _ (u : Relations) (o : Order) (s : State) (c : Call) (e : Effect) (before
 -- who is recalled and who is woken are together at most 64
 pub report_fits : ReportFits
 unfolding step
-report_fits u o lawful s i c =
+report_fits u laws o lawful s i c =
     named_few u o s c (effect_by u o s c (refusal (checks u s c))) (open_few u s i.well_formed)
-    (open_few u (effect_by u o s c (refusal (checks u s c))).state (step_invariant u o lawful s i c).well_formed) (looks_or_recalls_nobody u o lawful s i.well_formed c)
+    (open_few u (effect_by u o s c (refusal (checks u s c))).state (step_invariant u laws o lawful s i c).well_formed) (looks_or_recalls_nobody u o lawful s i.well_formed c)

@@ -1,5 +1,7 @@
 -- What was granted since opening is backed by a held claim that covers it.
 use Rattle.std.proofs.Common.{◌≡◌, ℕ, Bool, true, false, not, ◌&&◌, eqb, List, [], None, filter, sym, refl, ◌∙◌, subst, arith}
+use Rattle.std.proofs.Math.Logic.{∥∥₁_elim}
+use Rattle.std.proofs.Props.{props}
 use Rattle.std.proofs.lemmas.Bool.{and_parts, eqb-true, not-true, ne_eqb}
 use Rattle.std.proofs.lemmas.Bool.Decides.{nat_tests}
 use Rattle.uses.specs.Relations.{Relations, UseLaws}
@@ -9,7 +11,7 @@ use Rattle.model.specs.State.{State, numbers, is_open, state_without, state_with
 use Rattle.model.specs.Recalling.{Order, entry_of, recall_result}
 use Rattle.model.specs.Calls.{answer_granted, answer_covered, checks, refusal, Effect, after_entry, claim_of, accepted, woken, step}
 use Rattle.model.specs.Invariant.{WellFormed, Invariant}
-use Rattle.model.specs.Runs.{Run, start, next, at, Names, Grants, by_grant, by_cover, by_wake, HasGrant, just_now, before}
+use Rattle.model.specs.Runs.{Run, start, next, at, HasRun, Names, Grants, by_grant, by_cover, by_wake, HasGrant, just_now, before}
 use Rattle.model.specs.Law.{IsEntered, Exclusion}
 use Rattle.model.specs.declared.call.Call.{Call}
 use Rattle.model.specs.declared.call.Call.TheVariants as call
@@ -188,7 +190,13 @@ module _ (u : Relations) (laws : UseLaws u) (o : Order) (lawful : OrderLaws o) w
   -- the invariant holds at the end of every run
   pub run_invariant : (r : Run) → Invariant u (at u o r)
   run_invariant (start detection) = new_invariant u detection
-  run_invariant (next r c) = step_invariant u o lawful (at u o r) (run_invariant r) c
+  run_invariant (next r c) = step_invariant u laws o lawful (at u o r) (run_invariant r) c
+
+  -- so it holds of every state to which a run leads
+  pub led_invariant : (s : State) → HasRun u o s → Invariant u s
+  led_invariant s led =
+      let one : IsProp (Invariant u s) = hlevel (props) in
+      ∥∥₁_elim led one (λ run. subst (Invariant u) run.1 (run_invariant run.0))
 
   -- what a call grants is backed after it
   grants_backed :

@@ -94,7 +94,7 @@ module _ (u : Relations) (laws : UseLaws u) (o : Order) (lawful : OrderLaws o) (
   progress : Progress u s c x
   unfolding step
   progress why =
-      let after = step_invariant u o lawful s i c in
+      let after = step_invariant u laws o lawful s i c in
       waits_end u x.state after.well_formed
       (⊎_elim (λ k. after.no_cycle (step_detection u o lawful s i.well_formed c ∙ k))
       (λ k. sweep_clears u o s c e looked_at k) why)
@@ -128,7 +128,7 @@ module _ (u : Relations) (laws : UseLaws u) (o : Order) (lawful : OrderLaws o) w
   each_outcome :
       (P : State → Call → Outcome → Type 0)
       → ((r : Run) (c : Call) → P (at u o r) c (outcome u o r c))
-      → (r : Run) → EachOutcome u o P r
+      → (r : Run) → EachOutcome u o (outcome u o) P r
   each_outcome P always r = each_call (λ r c. P (at u o r) c (outcome u o r c)) always r
 
   -- the law holds of every run

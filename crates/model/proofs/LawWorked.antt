@@ -10,13 +10,13 @@ use Rattle.model.specs.Graph.Leads.{one, more}
 use Rattle.model.specs.Claims.{waits_for}
 use Rattle.model.specs.Recalling.{on_cycles, recall_result_within, recall_result}
 use Rattle.model.specs.Calls.{step}
-use Rattle.model.specs.Runs.{Run, start, next, at, Grants, by_grant, by_cover, by_wake, HasGrant, just_now, before}
-use Rattle.model.specs.Invariant.{Invariant}
-use Rattle.model.specs.Law.{Exclusion, IsRunning, WaitsEnd}
+use Rattle.model.specs.Runs.{start, next, at, Grants, by_grant, by_cover, by_wake, HasGrant, just_now, before}
+use Rattle.model.specs.Law.{Exclusion, IsRunning, WaitsEnd, LawWhere, Law}
 use Rattle.model.specs.Examples.{look, move}
-use Rattle.model.specs.LawExamples.{LawExamplesRight, two_docks_run, one_waits_run, two_stations_run, covered_run, one_sided, one_sided_run, deadlock, queue_of, behind_nobody, entry, BreaksProgress, WrongTime, WrongOnes}
+use Rattle.model.specs.LawExamples.{LawExamplesRight, two_docks_run, one_waits_run, two_stations_run, covered_run, one_sided, one_sided_run, deadlock, queue_of, behind_nobody, entry, recalling, changed_after, MayNotLeave, MayNotRecall, NoTimeToRecall}
 use Rattle.model.proofs.LawHolds.{law}
-use Rattle.model.proofs.Steps.{new_invariant, step_invariant}
+use Rattle.model.proofs.Graphs.{first_step}
+use Rattle.model.proofs.Grants.{run_invariant}
 use Rattle.model.specs.declared.call.Call.TheVariants.{Open, Claim, Close, Sweep}
 use Rattle.model.specs.declared.state.Detection.TheVariants.{Continuous, Periodic}
 
@@ -36,6 +36,9 @@ exclusion_broken : ¬ Exclusion one_sided newest one_sided_run
 unfolding step closure on_cycles recall_result_within recall_result
 exclusion_broken h =
     false≢true (sym (h 2 1 7 move look (λ e. omega (arith, e)) (just_now (by_grant refl refl) refl) (before (just_now (by_grant refl refl) refl) refl)))
+
+once_broken : ¬ Law one_sided newest (next one_sided_run (Close 1))
+once_broken h = exclusion_broken h.exclusion.0.1
 
 by_closing : HasGrant two_uses newest (two_stations_run Periodic) 2 11 move
 unfolding step closure on_cycles recall_result_within recall_result
@@ -67,7 +70,7 @@ goes_round r there back (suc n) = (there, (back, goes_round r there back n))
 
 waits_go_on : ¬ WaitsEnd two_uses deadlock
 unfolding step closure on_cycles recall_result_within recall_result
-waits_go_on h = omega (arith, h.short 1 (around 32) (refl, goes_round (waits_for two_uses deadlock.claims) refl refl 32))
+waits_go_on h = omega (arith, h.short 1 (around 40) (refl, goes_round (waits_for two_uses deadlock.claims) refl refl 40))
 
 waiting : ¬ IsRunning two_uses (at two_uses newest (one_waits_run Continuous)) 1
 unfolding step closure on_cycles recall_result_within recall_result
@@ -87,34 +90,31 @@ chain_by_test : (r : ℕ → ℕ → Bool) (a : ℕ) (bs : List ℕ) → is_chai
 chain_by_test r a [] h = tt
 chain_by_test r a (b ∷ bs) h = let parts = and_parts (r a b) (is_chain r b bs) h in (parts.0, chain_by_test r b bs parts.1)
 
-too_long : ¬ WaitsEnd two_uses (queue_of 65)
-too_long h = omega (arith, h.short 64 (below 64) (refl, chain_by_test (waits_for two_uses (queue_of 65).claims) 64 (below 64) refl))
-
-ends_nowhere : ¬ WaitsEnd two_uses behind_nobody
-ends_nowhere h = false≢true (h.ends_running 1 (2 ∷ []) (refl, (refl, tt)) (λ f. refl)).0
-
-after_claim : BreaksProgress (one_waits_run Continuous) (Claim 2 10 move)
+too_long : MayNotLeave (start Continuous) Sweep (queue_of 65)
 unfolding step closure on_cycles recall_result_within recall_result
-after_claim h = waits_go_on (h (inl refl))
+too_long h = omega (arith, (h.progress.1 (inl refl)).short 64 (below 64) (refl, chain_by_test (waits_for two_uses (queue_of 65).claims) 64 (below 64) refl))
 
-after_opening : BreaksProgress (one_waits_run Continuous) (Open 3 5)
+ends_nowhere : MayNotLeave (start Continuous) Sweep behind_nobody
 unfolding step closure on_cycles recall_result_within recall_result
-after_opening h = waits_go_on (h (inl refl))
+ends_nowhere h = false≢true ((h.progress.1 (inl refl)).ends_running 1 (2 ∷ []) (refl, (refl, tt)) (λ f. refl)).0
 
-after_sweep : BreaksProgress (two_stations_run Periodic) Sweep
-after_sweep h = waits_go_on (h (inr refl))
+after_claim : MayNotLeave (one_waits_run Continuous) (Claim 2 10 move) deadlock
+unfolding step closure on_cycles recall_result_within recall_result
+after_claim h = waits_go_on (h.progress.1 (inl refl))
 
--- the invariant holds at the end of every run
-sound : (r : Run) → Invariant two_uses (at two_uses newest r)
-sound (start detection) = new_invariant two_uses detection
-sound (next r c) = step_invariant two_uses newest order (at two_uses newest r) (sound r) c
+after_opening : MayNotLeave (one_waits_run Continuous) (Open 3 5) deadlock
+unfolding step closure on_cycles recall_result_within recall_result
+after_opening h = waits_go_on (h.progress.1 (inl refl))
+
+after_sweep : MayNotLeave (two_stations_run Periodic) Sweep deadlock
+after_sweep h = waits_go_on (h.progress.1 (inr refl))
 
 -- no cycle stands at the end of the run in which only one waits
 no_cycle : ¬ HasCycle (waits_for two_uses (at two_uses newest (one_waits_run Continuous)).claims)
 unfolding step closure on_cycles recall_result_within recall_result
-no_cycle cycle = (sound (one_waits_run Continuous)).no_cycle refl cycle.0 cycle.1
+no_cycle cycle = (run_invariant two_uses laws newest order (one_waits_run Continuous)).no_cycle refl cycle.0 cycle.1
 
-waits_alone : WrongTime (two_docks_run Continuous) (Claim 1 11 move) (1 ∷ [])
+waits_alone : NoTimeToRecall (two_docks_run Continuous) (Claim 1 11 move) (1 ∷ [])
 unfolding step closure on_cycles recall_result_within recall_result
 waits_alone h = no_cycle ((h.by_claim (refl, tt)).0 (λ e. cc))
 
@@ -123,43 +123,52 @@ around_two : OnCycle (waits_for two_uses deadlock.claims) 2
 unfolding step closure on_cycles recall_result_within recall_result
 around_two = more {b = 1} refl (one refl)
 
-closes_cycle : WrongTime (one_waits_run Continuous) (Claim 2 10 move) []
+closes_cycle : MayNotRecall (one_waits_run Continuous) (Claim 2 10 move) []
 unfolding step closure on_cycles recall_result_within recall_result
-closes_cycle h = (h.by_claim (refl, tt)).1 (2, around_two) refl
+closes_cycle h = (h.recall_when.1.by_claim (refl, tt)).1 (2, around_two) refl
 
-sweeps_none : WrongTime (one_waits_run Continuous) Sweep (1 ∷ [])
+sweeps_none : NoTimeToRecall (one_waits_run Continuous) Sweep (1 ∷ [])
 unfolding step closure on_cycles recall_result_within recall_result
 sweeps_none h = no_cycle ((h.by_sweep refl).0 (λ e. cc))
 
-sweeps_cycle : WrongTime (two_stations_run Periodic) Sweep []
-sweeps_cycle h = (h.by_sweep refl).1 (2, around_two) refl
+sweeps_cycle : MayNotRecall (two_stations_run Periodic) Sweep []
+sweeps_cycle h = (h.recall_when.1.by_sweep refl).1 (2, around_two) refl
 
-too_early : WrongTime (one_waits_run Periodic) (Claim 2 10 move) (2 ∷ [])
-unfolding step closure on_cycles recall_result_within recall_result
-too_early h = ⊎_elim (λ e. cc) (λ entry. absurd (periodic entry.0)) (h.by_no_other (λ e. cc))
-  where
-    periodic : Periodic ≡ Continuous → ⊥
-    periodic e = cc
+periodic : Periodic ≡ Continuous → ⊥
+periodic e = cc
 
-covered : WrongTime (one_waits_run Continuous) (Claim 2 11 look) (1 ∷ [])
+too_early : MayNotRecall (one_waits_run Periodic) (Claim 2 10 move) (2 ∷ [])
 unfolding step closure on_cycles recall_result_within recall_result
-covered h = ⊎_elim (λ e. cc) (λ entry. entry.1) (h.by_no_other (λ e. cc))
+too_early h = ⊎_elim (λ e. cc) (λ entry. absurd (periodic entry.0)) (h.recall_when.1.by_no_other (λ e. cc))
 
-closes : WrongTime (one_waits_run Continuous) (Close 2) (1 ∷ [])
+opens : MayNotRecall (two_stations_run Periodic) (Open 3 5) (2 ∷ [])
 unfolding step closure on_cycles recall_result_within recall_result
-closes h = ⊎_elim (λ e. cc) (λ entry. entry.1) (h.by_no_other (λ e. cc))
+opens h = ⊎_elim (λ e. cc) (λ entry. entry.1) (h.recall_when.1.by_no_other (λ e. cc))
 
-off_cycle : WrongOnes (two_docks_run Continuous) (Claim 1 11 move) (1 ∷ [])
+covered : MayNotRecall (one_waits_run Continuous) (Claim 2 11 look) (2 ∷ [])
 unfolding step closure on_cycles recall_result_within recall_result
-off_cycle h = no_cycle (1, (h [] [] (entry 1) refl).on_cycle)
+covered h = ⊎_elim (λ e. cc) (λ entry. entry.1) (h.recall_when.1.by_no_other (λ e. cc))
 
-older : WrongOnes (one_waits_run Continuous) (Claim 2 10 move) (1 ∷ [])
+off_cycle : MayNotRecall (next (one_waits_run Continuous) (Open 3 5)) (Claim 2 10 move) (3 ∷ [])
 unfolding step closure on_cycles recall_result_within recall_result
-older h = false≢true (sym ((h [] [] (entry 1) refl).none_before 2 around_two))
+off_cycle h =
+    let out = first_step (waits_for two_uses deadlock.claims) (h.recall_whom.1 [] [] (entry 3) refl).on_cycle in
+    false≢true out.1
 
-one_more : WrongOnes (one_waits_run Continuous) (Claim 2 10 move) (2 ∷ 1 ∷ [])
+older : MayNotRecall (one_waits_run Continuous) (Claim 2 10 move) (1 ∷ [])
 unfolding step closure on_cycles recall_result_within recall_result
-one_more h = (sound (two_stations_run Continuous)).no_cycle refl 1 (h (entry 2 ∷ []) [] (entry 1) refl).on_cycle
+older h = false≢true (sym ((h.recall_whom.1 [] [] (entry 1) refl).none_before 2 around_two))
+
+one_more : MayNotRecall (one_waits_run Continuous) (Claim 2 10 move) (2 ∷ 1 ∷ [])
+unfolding step closure on_cycles recall_result_within recall_result
+one_more h = (run_invariant two_uses laws newest order (two_stations_run Continuous)).no_cycle refl 1 (h.recall_whom.1 (entry 2 ∷ []) [] (entry 1) refl).on_cycle
+
+ever_since :
+    ¬ LawWhere two_uses newest
+    (changed_after (one_waits_run Continuous) (recalling (one_waits_run Continuous) (Claim 2 10 move) (1 ∷ [])))
+    (next (two_stations_run Continuous) (Open 3 5))
+unfolding step closure on_cycles recall_result_within recall_result
+ever_since h = false≢true (sym ((h.recall_whom.0.1 [] [] (entry 1) refl).none_before 2 around_two))
 
 pub law_examples_right : LawExamplesRight
 law_examples_right = record {
@@ -170,6 +179,7 @@ law_examples_right = record {
     not_recalled = not_recalled;
     not_waiting = not_waiting;
     exclusion_broken = exclusion_broken;
+    once_broken = once_broken;
   };
   waits = record {
     waiting = waiting;
@@ -186,10 +196,11 @@ law_examples_right = record {
     sweeps_none = sweeps_none;
     sweeps_cycle = sweeps_cycle;
     too_early = too_early;
+    opens = opens;
     covered = covered;
-    closes = closes;
     off_cycle = off_cycle;
     older = older;
     one_more = one_more;
+    ever_since = ever_since;
   };
 }

@@ -15,3 +15,4 @@ pub mod Wakes
 pub mod Turns
 pub mod Room
 pub mod Places
+pub mod Refusals

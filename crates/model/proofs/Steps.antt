@@ -2,7 +2,7 @@
 use Rattle.std.proofs.Common.{◌≡◌, ℕ, ◌<◌, ◌≤◌, true, false, cond, ◌⊎◌, List, [], length, Some, None, Option, refl, subst, inl, inr, arith}
 use Rattle.std.proofs.lemmas.Bool.{cond_both, false≢true}
 use Rattle.std.proofs.lemmas.Bool.Decides.{nat_tests}
-use Rattle.uses.specs.Relations.{Relations}
+use Rattle.uses.specs.Relations.{Relations, UseLaws}
 use Rattle.orders.specs.Laws.{OrderLaws}
 use Rattle.model.specs.Claims.{without, waits_for, dispatch_waits, is_covered}
 use Rattle.model.specs.State.{State, new, is_open, state_without, state_with_claim}
@@ -167,7 +167,7 @@ module _ (u : Relations) (o : Order) (lawful : OrderLaws o) (s : State) (w : Wel
   unfolding step
   step_detection c = effect_cases u o s c (λ e. e.state.detection ≡ s.detection) (λ n h. refl) (accepted_detection c)
 
-module _ (u : Relations) (o : Order) (lawful : OrderLaws o) (s : State) (i : Invariant u s) where
+module _ (u : Relations) (laws : UseLaws u) (o : Order) (lawful : OrderLaws o) (s : State) (i : Invariant u s) where
   abbrev w : WellFormed u s
   w = i.well_formed
 

@@ -55,7 +55,8 @@ module _ (u : Relations) (s : State) where
     pub ends_running :
         (d : ℕ) (es : List ℕ) → ChainOfWaits d es → IsComplete d es → IsRunning (end_of d es)
 
--- where two different dispatches have grants of one section, since opening, the uses do not conflict
+-- where two different dispatches have grants of one section, since opening, the uses do not
+-- conflict
 abbrev pub Exclusion : Relations → Order → Run → Type 0
 Exclusion u o r =
     (d e section mode_d mode_e : ℕ) → d ≢ e
@@ -96,24 +97,33 @@ module _ (u : Relations) (o : Order) where
     pub none_before :
         (e : ℕ) → OnCycle (waits_for u s.claims) e → strictly_before u o s e d ≡ false
 
-  -- whom a call recalls: each was the right one just before its recall, with the call's claim, if it
-  -- has one, entered, and those gone whom the call recalled earlier
+  -- the state just before a recall: the call's claim, if it has one, is entered, and those whom
+  -- the call recalled earlier are gone
+  abbrev pub just_before : State → Call → List ReportEntry → State
+  just_before before c earlier = once_recalled earlier (once_entered c before)
+
+  -- whom a call recalls: each was the right one just before its recall
   abbrev pub RecallWhom : State → Call → Outcome → Type 0
   RecallWhom before c x =
       (earlier later : List ReportEntry) (n : ReportEntry) → x.recalls ≡ earlier ++ n ∷ later
-      → IsRightVictim (once_recalled earlier (once_entered c before)) n.dispatch
+      → IsRightVictim (just_before before c earlier) n.dispatch
 
-  -- the fact holds of every call of the run, with the state before it and what it gives
-  abbrev pub EachOutcome : (State → Call → Outcome → Type 0) → Run → Type 0
-  EachOutcome P = EachCall (λ r c. P (at u o r) c (outcome u o r c))
+  -- the fact holds of every call of the run: of the state before it, the call, and what it gives
+  abbrev pub EachOutcome :
+      (Run → Call → Outcome) → (State → Call → Outcome → Type 0) → Run → Type 0
+  EachOutcome gives P = EachCall (λ r c. P (at u o r) c (gives r c))
 
-  -- the law over runs
-  pub record Law (r : Run) : Type 0 where
+  -- the law over runs, where `gives r c` is what call c gives after run r
+  pub record LawWhere (gives : Run → Call → Outcome) (r : Run) : Type 0 where
     -- exclusion: two open dispatches never hold grants of one section whose uses conflict
     pub exclusion : EachMoment (Exclusion u o) r
     -- progress: waits end
-    pub progress : EachOutcome (Progress u) r
+    pub progress : EachOutcome gives (Progress u) r
     -- recall: exactly when a claim that is entered closes a cycle, or a sweep finds one
-    pub recall_when : EachOutcome (RecallWhen u) r
+    pub recall_when : EachOutcome gives (RecallWhen u) r
     -- recall: the right dispatch
-    pub recall_whom : EachOutcome RecallWhom r
+    pub recall_whom : EachOutcome gives RecallWhom r
+
+  -- the law over runs: of what every call gives
+  abbrev pub Law : Run → Type 0
+  Law = LawWhere (outcome u o)

@@ -1,6 +1,6 @@
--- What the law says of given runs, and what breaks it: lawless tables, states that no run leads to,
--- and calls that do other than they should. They can be checked by hand.
-use Rattle.std.specs.Prelude.{ℕ, ◌&&◌, ◌||◌, List, [], ◌∷◌, map, ◌==◌}
+-- What the law says of given runs, and what breaks it: a lawless table, and calls that leave a
+-- state or recall dispatches that they should not. They can be checked by hand.
+use Rattle.std.specs.Prelude.{ℕ, suc, if◌then◌else◌, ◌&&◌, ◌||◌, List, [], ◌∷◌, map, ◌==◌}
 use Rattle.std.specs.List.{range_with_len}
 use Rattle.uses.specs.Relations.{Relations}
 use Rattle.uses.specs.TwoUses.{two_uses}
@@ -8,7 +8,7 @@ use Rattle.orders.specs.Orders.{newest}
 use Rattle.model.specs.State.{State, new}
 use Rattle.model.specs.Calls.{Outcome, claim_of}
 use Rattle.model.specs.Runs.{Run, start, next, at, outcome, HasGrant}
-use Rattle.model.specs.Law.{Exclusion, IsRunning, WaitsEnd, Progress, RecallWhen, RecallWhom}
+use Rattle.model.specs.Law.{Exclusion, IsRunning, WaitsEnd, RecallWhen, LawWhere, Law}
 use Rattle.model.specs.Examples.{look, move}
 use Rattle.model.specs.declared.call.Call.{Call}
 use Rattle.model.specs.declared.call.Call.TheVariants.{Open, Claim, Close, Sweep}
@@ -62,6 +62,26 @@ pub record GrantsRight : Type 0 where
   pub not_waiting : ¬ HasGrant two_uses newest (two_stations_run Periodic) 1 11 move
   -- exclusion is broken where conflict is not symmetric
   pub exclusion_broken : ¬ Exclusion one_sided newest one_sided_run
+  -- and the law with it, though at the end of the run one of the two is closed
+  pub once_broken : ¬ Law one_sided newest (next one_sided_run (Close 1))
+
+-- how many calls a run has
+abbrev pub calls_of : Run → ℕ
+calls_of (start detection) = 0
+calls_of (next r c) = suc (calls_of r)
+
+-- every call gives what it should, but the one after the run gives x
+abbrev pub changed_after : Run → Outcome → Run → Call → Outcome
+changed_after r x before c =
+    if calls_of before == calls_of r then x else outcome two_uses newest before c
+
+-- the law is broken where the call after the run gives x
+abbrev pub IsBroken : Run → Call → Outcome → Type 0
+IsBroken r c x = ¬ LawWhere two_uses newest (changed_after r x) (next r c)
+
+-- what the call after the run gives, but that it leaves the state
+abbrev pub leaving : Run → Call → State → Outcome
+leaving r c s = record (outcome two_uses newest r c) { state = s }
 
 -- each of the two stations waits for the other
 abbrev pub deadlock : State
@@ -81,11 +101,9 @@ behind_nobody = record (new Continuous) {
   claims = claim_of 2 7 move ∷ claim_of 1 7 move ∷ [];
 }
 
--- progress is broken where the call of the run leaves the deadlock
-abbrev pub BreaksProgress : Run → Call → Type 0
-BreaksProgress r c =
-    ¬ Progress two_uses (at two_uses newest r) c
-    (record (outcome two_uses newest r c) { state = deadlock })
+-- the law is broken where the call after the run leaves the state
+abbrev pub MayNotLeave : Run → Call → State → Type 0
+MayNotLeave r c s = IsBroken r c (leaving r c s)
 
 -- where waits do not end, and after which calls they have to
 pub record WaitsRight : Type 0 where
@@ -94,55 +112,61 @@ pub record WaitsRight : Type 0 where
   -- waits do not end where a cycle stands
   pub waits_go_on : ¬ WaitsEnd two_uses deadlock
   -- a chain of 64 steps, in a queue of 65, is too long
-  pub too_long : ¬ WaitsEnd two_uses (queue_of 65)
-  -- waits end in the wrong place where the last to be waited for is not open
-  pub ends_nowhere : ¬ WaitsEnd two_uses behind_nobody
+  pub too_long : MayNotLeave (start Continuous) Sweep (queue_of 65)
+  -- a chain may not end at one that is not open
+  pub ends_nowhere : MayNotLeave (start Continuous) Sweep behind_nobody
   -- a claim to a continuous book may not leave a deadlock
-  pub after_claim : BreaksProgress (one_waits_run Continuous) (Claim 2 10 move)
+  pub after_claim : MayNotLeave (one_waits_run Continuous) (Claim 2 10 move) deadlock
   -- nor may any other call to it
-  pub after_opening : BreaksProgress (one_waits_run Continuous) (Open 3 5)
+  pub after_opening : MayNotLeave (one_waits_run Continuous) (Open 3 5) deadlock
   -- nor may a sweep of a periodic book
-  pub after_sweep : BreaksProgress (two_stations_run Periodic) Sweep
+  pub after_sweep : MayNotLeave (two_stations_run Periodic) Sweep deadlock
 
 -- the dispatch, named as recalled; the law says nothing of its section
 abbrev pub entry : ℕ → ReportEntry
 entry d = record { dispatch = d; section = 10 }
 
--- what the call of the run gives, but that it recalls these
-abbrev pub recalling_these : Run → Call → List ℕ → Outcome
-recalling_these r c ds = record (outcome two_uses newest r c) { recalls = map entry ds }
+-- what the call after the run gives, but that it recalls the dispatches
+abbrev pub recalling : Run → Call → List ℕ → Outcome
+recalling r c ds = record (outcome two_uses newest r c) { recalls = map entry ds }
 
--- the call of the run may not recall these, since it has to recall somebody exactly when it should
-abbrev pub WrongTime : Run → Call → List ℕ → Type 0
-WrongTime r c ds = ¬ RecallWhen two_uses (at two_uses newest r) c (recalling_these r c ds)
+-- the law is broken where the call after the run recalls the dispatches
+abbrev pub MayNotRecall : Run → Call → List ℕ → Type 0
+MayNotRecall r c ds = IsBroken r c (recalling r c ds)
 
--- the call of the run may not recall these, since they are not the right ones
-abbrev pub WrongOnes : Run → Call → List ℕ → Type 0
-WrongOnes r c ds = ¬ RecallWhom two_uses newest (at two_uses newest r) c (recalling_these r c ds)
+-- the rule of when to recall is broken where the call after the run recalls the dispatches
+abbrev pub NoTimeToRecall : Run → Call → List ℕ → Type 0
+NoTimeToRecall r c ds = ¬ RecallWhen two_uses (at two_uses newest r) c (recalling r c ds)
 
--- where the rules of recalling are broken
+-- where recalling is broken
 pub record RecallsRight : Type 0 where
-  -- a claim that only waits recalls the claimant
-  pub waits_alone : WrongTime (two_docks_run Continuous) (Claim 1 11 move) (1 ∷ [])
-  -- a claim closes a cycle, and nobody is recalled
-  pub closes_cycle : WrongTime (one_waits_run Continuous) (Claim 2 10 move) []
-  -- a sweep recalls somebody where no cycle stands
-  pub sweeps_none : WrongTime (one_waits_run Continuous) Sweep (1 ∷ [])
-  -- a sweep recalls nobody where a cycle stands
-  pub sweeps_cycle : WrongTime (two_stations_run Periodic) Sweep []
-  -- a claim to a periodic book closes a cycle, and recalls somebody at once
-  pub too_early : WrongTime (one_waits_run Periodic) (Claim 2 10 move) (2 ∷ [])
-  -- a claim that is covered recalls somebody
-  pub covered : WrongTime (one_waits_run Continuous) (Claim 2 11 look) (1 ∷ [])
-  -- a close recalls somebody
-  pub closes : WrongTime (one_waits_run Continuous) (Close 2) (1 ∷ [])
-  -- who is on no cycle is recalled
-  pub off_cycle : WrongOnes (two_docks_run Continuous) (Claim 1 11 move) (1 ∷ [])
-  -- the older of two on a cycle is recalled
-  pub older : WrongOnes (one_waits_run Continuous) (Claim 2 10 move) (1 ∷ [])
-  -- after the newer one the older is recalled too, though the cycle is gone
-  pub one_more :
-      WrongOnes (one_waits_run Continuous) (Claim 2 10 move) (2 ∷ 1 ∷ [])
+  -- a claim that only waits may not recall the claimant
+  pub waits_alone : NoTimeToRecall (two_docks_run Continuous) (Claim 1 11 move) (1 ∷ [])
+  -- a claim that closes a cycle has to recall somebody
+  pub closes_cycle : MayNotRecall (one_waits_run Continuous) (Claim 2 10 move) []
+  -- a sweep may not recall anybody where no cycle stands
+  pub sweeps_none : NoTimeToRecall (one_waits_run Continuous) Sweep (1 ∷ [])
+  -- a sweep has to recall somebody where one stands
+  pub sweeps_cycle : MayNotRecall (two_stations_run Periodic) Sweep []
+  -- a claim to a periodic book that closes a cycle leaves it to a sweep
+  pub too_early : MayNotRecall (one_waits_run Periodic) (Claim 2 10 move) (2 ∷ [])
+  -- and so does every other call to it
+  pub opens : MayNotRecall (two_stations_run Periodic) (Open 3 5) (2 ∷ [])
+  -- a claim that is covered is not entered, and recalls nobody
+  pub covered : MayNotRecall (one_waits_run Continuous) (Claim 2 11 look) (2 ∷ [])
+  -- who is on no cycle may not be recalled, though a cycle stands and it is the newest
+  pub off_cycle :
+      MayNotRecall (next (one_waits_run Continuous) (Open 3 5)) (Claim 2 10 move) (3 ∷ [])
+  -- nor may the older of two that are on one
+  pub older : MayNotRecall (one_waits_run Continuous) (Claim 2 10 move) (1 ∷ [])
+  -- nor may the older one after the newer one, since the cycle is gone
+  pub one_more : MayNotRecall (one_waits_run Continuous) (Claim 2 10 move) (2 ∷ 1 ∷ [])
+  -- and the law stays broken when a call follows
+  pub ever_since :
+      ¬ LawWhere two_uses newest
+      (changed_after
+      (one_waits_run Continuous) (recalling (one_waits_run Continuous) (Claim 2 10 move) (1 ∷ [])))
+      (next (two_stations_run Continuous) (Open 3 5))
 
 -- the examples of the law are right
 pub record LawExamplesRight : Type 0 where

@@ -37,6 +37,10 @@ module _ (u : Relations) (o : Order) where
   at (start detection) = new detection
   at (next r c) = (step u o (at r) c).state
 
+  -- some run leads to the state; which one is not kept
+  abbrev pub HasRun : State → Type 0
+  HasRun s = ∥ ((r : Run) × (at r ≡ s)) ∥₁
+
   -- what a run's last call gives, after the run before it
   abbrev pub outcome : Run → Call → Outcome
   outcome r c = step u o (at r) c

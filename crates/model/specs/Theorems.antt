@@ -4,10 +4,10 @@ use Rattle.std.specs.List.{AllByRecursion, list_any}
 use Rattle.uses.specs.Relations.{Relations, UseLaws}
 use Rattle.orders.specs.Laws.{OrderLaws}
 use Rattle.model.specs.Graph.{OnCycle, LeadsInto, on_cycle}
-use Rattle.model.specs.Claims.{blocks, waits_for}
+use Rattle.model.specs.Claims.{blocks, dispatch_waits, waits_for}
 use Rattle.model.specs.State.{State, new, numbers}
 use Rattle.model.specs.Recalling.{Order, first}
-use Rattle.model.specs.Calls.{step, answer_refused}
+use Rattle.model.specs.Calls.{Outcome, checks, refusal, step, answer_refused}
 use Rattle.model.specs.Invariant.{WellFormed, Invariant}
 use Rattle.model.specs.Firsts.{IsFirst}
 use Rattle.model.specs.Runs.{Run}
@@ -32,7 +32,7 @@ abbrev pub InvariantKept : Type 0
 InvariantKept =
     (u : Relations)
     → ((detection : Detection) → Invariant u (new detection))
-    × ((o : Order) → OrderLaws o → CallsKeepInvariant u o)
+    × (UseLaws u → (o : Order) → OrderLaws o → CallsKeepInvariant u o)
 
 -- the test for being on a cycle agrees with the inductive definition
 abbrev pub CycleTestExact : Type 0
@@ -60,8 +60,27 @@ FirstExact =
 -- who is recalled and who is woken by one call are together at most 64
 abbrev pub ReportFits : Type 0
 ReportFits =
-    (u : Relations) (o : Order) → OrderLaws o → (s : State) → Invariant u s → (c : Call)
+    (u : Relations) → UseLaws u → (o : Order) → OrderLaws o
+    → (s : State) → Invariant u s → (c : Call)
     → length (step u o s c).recalls + length (step u o s c).wakes ≤ DISPATCHES
+
+-- a call is answered by a refusal exactly when a check applies, by the first that does
+abbrev pub RefusedByFirst : Type 0
+RefusedByFirst =
+    (u : Relations) (o : Order) (s : State) (c : Call) (n : ℕ)
+    → ((step u o s c).answer ≡ answer_refused n ↔ refusal (checks u s c) ≡ Some n)
+
+-- an outcome leaves the state as it was, and names nobody
+pub record ChangesNothing (s : State) (x : Outcome) : Type 0 where
+  pub left : x.state ≡ s
+  pub recalls : x.recalls ≡ []
+  pub wakes : x.wakes ≡ []
+
+-- a refused call changes nothing
+abbrev pub RefusedChangesNothing : Type 0
+RefusedChangesNothing =
+    (u : Relations) (o : Order) (s : State) (c : Call) (n : ℕ)
+    → (step u o s c).answer ≡ answer_refused n → ChangesNothing s (step u o s c)
 
 -- a claim is refused for want of room only where 512 claims stand
 abbrev pub RefusedWhenFull : Type 0
@@ -82,6 +101,14 @@ abbrev pub NoNewStep : Type 0
 NoNewStep =
     (u : Relations) (cs : List Claim) (c : Claim) → list_any (λ b. blocks u b c) cs ≡ false
     → (d e : ℕ) → waits_for u (cs ++ c ∷ []) d e ≡ waits_for u cs d e
+
+-- a claim of a dispatch that runs, which nothing blocks, closes no cycle: whoever is on one once it
+-- is entered was on one before
+abbrev pub NoNewCycle : Type 0
+NoNewCycle =
+    (u : Relations) (cs : List Claim) (c : Claim) → dispatch_waits u cs c.dispatch ≡ false
+    → list_any (λ b. blocks u b c) cs ≡ false
+    → (d : ℕ) → OnCycle (waits_for u (cs ++ c ∷ [])) d → OnCycle (waits_for u cs) d
 
 -- the worked examples are right
 abbrev pub ExamplesRight : Type 0

@@ -1,8 +1,9 @@
 // The theorems. Each function does nothing: its contract is what is proved, for every use table and
 // every recall order that keeps its laws.
 ghost use Rattle.model.specs.Theorems.{LimitsRight, LawOverRuns, InvariantKept, CycleTestExact};
-ghost use Rattle.model.specs.Theorems.{StepsLeadToOpen, FirstExact, ReportFits, RefusedWhenFull};
-ghost use Rattle.model.specs.Theorems.{NoNewStep, ExamplesRight};
+ghost use Rattle.model.specs.Theorems.{StepsLeadToOpen, FirstExact, ReportFits, RefusedByFirst};
+ghost use Rattle.model.specs.Theorems.{RefusedChangesNothing, RefusedWhenFull, NoNewStep};
+ghost use Rattle.model.specs.Theorems.{NoNewCycle, ExamplesRight};
 ghost use Rattle.model.specs.LawExamples.{LawExamplesRight};
 
 /// Exclusion, progress and recall hold of every run of calls.
@@ -31,6 +32,13 @@ pub fn report_fits()
     ensures { ReportFits }
 {}
 
+/// A call is answered by a refusal exactly when a check applies, by the first that does; and then it
+/// changes nothing, recalls nobody and wakes nobody.
+pub fn refusals_are_exact()
+    ensures first { RefusedByFirst }
+    ensures unchanged { RefusedChangesNothing }
+{}
+
 /// A claim is refused for want of room only where 512 claims stand.
 pub fn refused_when_full()
     ensures { RefusedWhenFull }
@@ -41,9 +49,14 @@ pub fn limits_are_right()
     ensures { LimitsRight }
 {}
 
-/// A claim that nothing blocks adds no step of waiting, so it closes no cycle.
+/// A claim that nothing blocks adds no step of waiting.
 pub fn unblocked_claim_adds_no_step()
     ensures { NoNewStep }
+{}
+
+/// A claim that nothing blocks closes no cycle. A book grants it without a search, for this reason.
+pub fn unblocked_claim_closes_no_cycle()
+    ensures { NoNewCycle }
 {}
 
 /// The worked examples come out as they should.
