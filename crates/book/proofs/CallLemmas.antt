@@ -48,8 +48,8 @@ module _ (u : Relations) (o : Order) (s : State) (c : Call) where
         answered = sym (ap (λ (x : Outcome). x.answer) stepped);
         reported = is ∙ (ap (report_of []) (sym (woken_same u s s refl)) ∙ sym (ap (λ (x : Outcome). report x) stepped));
         left = same ∙ sym (ap (λ (x : Outcome). x.state) stepped);
-        checked = h;
-        refused = (same, is);
+        verdict = h;
+        on_refusal = (same, is);
       }
 
   -- a call that is accepted
@@ -60,8 +60,8 @@ module _ (u : Relations) (o : Order) (s : State) (c : Call) where
         answered = says ∙ sym (ap (λ (x : Outcome). x.answer) stepped);
         reported = is ∙ sym (ap (λ (x : Outcome). report x) stepped);
         left = same ∙ sym (ap (λ (x : Outcome). x.state) stepped);
-        checked = (h, tt);
-        refused = tt;
+        verdict = (h, tt);
+        on_refusal = tt;
       }
 
   -- a call that is accepted, wakes nobody and recalls nobody

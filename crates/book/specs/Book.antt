@@ -37,9 +37,9 @@ module _ (u : Relations) (o : Order)
     pub reported : r ≡ report (step u o before c)
     pub left : after ≡ (step u o before c).state
     -- it is refused exactly where a check applies, by the first that does
-    pub checked : IsChecked answer (checks u before c) (λ _. Unit {0})
+    pub verdict : IsChecked answer (checks u before c) (λ _. Unit {0})
     -- where it is refused, the state stays as it was, and nobody is recalled or woken
-    pub refused : OnErr answer ((after ≡ before) × (r ≡ report_of [] []))
+    pub on_refusal : OnErr answer ((after ≡ before) × (r ≡ report_of [] []))
 
   -- a run that has led to the state before goes on with the call: to the state left, and lawfully
   pub record RunGoesOn (run : Run) : Type 0 where
@@ -72,7 +72,7 @@ module _ {T O : Type 0} {t p : _} (uses : T → Relations) (orders : O → Order
   abbrev GoesOn : Run → Type 0
   GoesOn = RunGoesOn uses_of orders_of (state_of before) c answer r (state_of after)
 
-  -- the law over runs: every run that leads to the book goes on with the call, and some run does
+  -- the law over runs: every run that leads to the book goes on with the call, and one leads to it
   pub record KeepsLaw : Type 0 where
     pub every : (run : Run) → LeadsHere run → GoesOn run
     pub some : ∥ ((run : Run) × LeadsHere run × GoesOn run) ∥₁

@@ -30,11 +30,11 @@ module _ (u : Relations) (o : Order) (s : State) (c : Call) (r : Report) (t : St
   -- a call whose one answer is ok was answered ok
   pub answered_ok : (a : Answer) → (accepted u o s c).answer ≡ answer_ok → CarriedOut u o s c (Ok a) r t → CarriedOut u o s c (Ok answer.Ok) r t
   answered_ok a plain h = record {
-    answered = sym (answer_by None h.checked.0 ∙ plain);
+    answered = sym (answer_by None h.verdict.0 ∙ plain);
     reported = h.reported;
     left = h.left;
-    checked = h.checked;
-    refused = tt;
+    verdict = h.verdict;
+    on_refusal = tt;
   }
 
 -- a call of a book whose one answer is ok was answered ok

@@ -70,11 +70,11 @@ module _ (u : Relations) (s : State) (d : ℕ) (small : d < DISPATCHES) where
   module _ (o : Order) (r : Report) (t : State) where
     -- a hand-in that is refused says that the number is free
     refused_free : (k : Condition) → condition u s d ≡ k → (e : Refusal) → CarriedOut u o s (hand_in_call k d) (Err e) r t → ◌≡◌ {A = Result Ending Refusal} (Err e) (hand_in_answer k)
-    refused_free Running is e h = apart (refusal (checks u s (call.Close d))) (number e) (checked Running is) h.checked
-    refused_free Waiting is e h = apart (refusal (checks u s (call.Withdraw d))) (number e) (checked Waiting is) h.checked
-    refused_free Recalled is e h = apart (refusal (checks u s (call.Acknowledge d))) (number e) (checked Recalled is) h.checked
+    refused_free Running is e h = apart (refusal (checks u s (call.Close d))) (number e) (checked Running is) h.verdict
+    refused_free Waiting is e h = apart (refusal (checks u s (call.Withdraw d))) (number e) (checked Waiting is) h.verdict
+    refused_free Recalled is e h = apart (refusal (checks u s (call.Acknowledge d))) (number e) (checked Recalled is) h.verdict
     refused_free Free is e h =
-        let seven = same (refusal (checks u s (call.Close d))) (number e) 7 h.checked (checked Free is) in
+        let seven = same (refusal (checks u s (call.Close d))) (number e) 7 h.verdict (checked Free is) in
         ap (λ (x : Refusal). Err x) (seventh e seven)
 
     -- a hand-in that is answered is answered ok, by a call that was not refused
@@ -83,7 +83,7 @@ module _ (u : Relations) (s : State) (d : ℕ) (small : d < DISPATCHES) where
     answered_ended Waiting is a h = answered_ok u o s (call.Withdraw d) r t a refl h
     answered_ended Recalled is a h = answered_ok u o s (call.Acknowledge d) r t a refl h
     answered_ended Free is a h =
-        let clash : ◌≡◌ {A = ℕ} 0 1 = apart (refusal (checks u s (call.Close d))) 7 h.checked.0 (checked Free is) in
+        let clash : ◌≡◌ {A = ℕ} 0 1 = apart (refusal (checks u s (call.Close d))) 7 h.verdict.0 (checked Free is) in
         absurd (omega (arith, clash))
 
     -- a hand-in answers what its dispatch's condition says, and that is what the book was answered

@@ -20,7 +20,7 @@ returns-in_err-open g c =
 pub invariant_of-result : goal.invariant_of-result
 invariant_of-result g c =
     let b = c.args.book.now in
-    let through = c.in_ok-open.ensures.carried.checked.0 in
+    let through = c.in_ok-open.ensures.carried.verdict.0 in
     let below = (passed_opening (g.T.UseTable.meaning b.policy.table) (state b.tables) c.args.dispatch c.args.weight through).0 in
     record { small = omega (arith, below) }
 
