@@ -1,10 +1,10 @@
 -- From the parts of a call to what it promises.
-use Rattle.std.proofs.Common.{Bool, false, is_some, nat_le, ◌≡◌, ℕ, List, [], ◌∷◌, ◌++◌, arith, Some, None, Ok, Err, Option, Result, IsErrAnd, sym, refl, ap, ◌∙◌, subst}
+use Rattle.std.proofs.Common.{Bool, false, is_some, nat_le, ◌≡◌, ℕ, List, [], ◌∷◌, ◌++◌, arith, Some, None, Ok, Err, Option, Result, IsErrAnd, sym, refl, ap, ◌∙◌}
+use Rattle.std.proofs.Math.Logic.{∥∥₁_map}
 use Rattle.std.proofs.lemmas.Bool.{cond-false}
 use Rattle.std.proofs.lemmas.Bool.Decides.{nat_tests}
 use Rattle.std.proofs.lemmas.Result.{err_from_is_err_and}
 use Rattle.uses.specs.Relations.{Relations}
-use Rattle.orders.specs.Laws.{OrderLaws}
 use Rattle.model.specs.State.{State, state_without}
 use Rattle.model.specs.Recalling.{Order}
 use Rattle.model.specs.Claims.{dispatch_waits, waiting_section}
@@ -13,10 +13,9 @@ use Rattle.model.specs.declared.state.Condition.{Condition}
 use Rattle.model.proofs.ClaimLists.{waiting_section_some}
 use Rattle.book.specs.Tables.{condition_by}
 use Rattle.model.specs.Calls.{number_too_high, Check, Outcome, Effect, checks, refusal, accepted, effect_by, woken, with_wakes, step, report_of, report, plain, answer_ok}
-use Rattle.model.specs.Invariant.{Invariant}
+use Rattle.model.specs.Runs.{next, HasRun}
 use Rattle.model.specs.declared.call.Call.{Call}
 use Rattle.model.specs.declared.report.Report.{Report}
-use Rattle.model.proofs.Steps.{step_invariant}
 use Rattle.model.proofs.Wakes.{woken_same}
 use Rattle.book.specs.Answer.{number, answer_of}
 use Rattle.book.specs.Book.{CarriedOut, CarriesOut, state_of, table_of, order_of}
@@ -49,6 +48,8 @@ module _ (u : Relations) (o : Order) (s : State) (c : Call) where
         answered = sym (ap (λ (x : Outcome). x.answer) stepped);
         reported = is ∙ (ap (report_of []) (sym (woken_same u s s refl)) ∙ sym (ap (λ (x : Outcome). report x) stepped));
         left = same ∙ sym (ap (λ (x : Outcome). x.state) stepped);
+        verdict = h;
+        on_refusal = (same, is);
       }
 
   -- a call that is accepted
@@ -59,6 +60,8 @@ module _ (u : Relations) (o : Order) (s : State) (c : Call) where
         answered = says ∙ sym (ap (λ (x : Outcome). x.answer) stepped);
         reported = is ∙ sym (ap (λ (x : Outcome). report x) stepped);
         left = same ∙ sym (ap (λ (x : Outcome). x.state) stepped);
+        verdict = (h, tt);
+        on_refusal = tt;
       }
 
   -- a call that is accepted, wakes nobody and recalls nobody
@@ -71,17 +74,17 @@ module _ (u : Relations) (o : Order) (s : State) (c : Call) where
   carried_end d n r t h does at is same =
       carried_accepted answer.Ok (plain (state_without d s) answer_ok) r t h does refl (is ∙ ap (λ (k : ℕ). report_of [] (woken u s (state_without k s))) at) (same ∙ ap (λ (k : ℕ). state_without k s) at)
 
--- what is carried out keeps the invariant
-pub kept : (u : Relations) (o : Order) → OrderLaws o → (s : State) (c : Call) {a : Result Answer Refusal} {r : Report} {t : State} → Invariant u s → CarriedOut u o s c a r t → Invariant u t
-kept u o lawful s c i carried = subst (Invariant u) (sym carried.left) (step_invariant u o lawful s i c)
+-- a run that has led to the state goes on with what is carried out
+pub history_goes_on : (u : Relations) (o : Order) (s : State) (c : Call) {a : Result Answer Refusal} {r : Report} {t : State} → HasRun u o s → CarriedOut u o s c a r t → HasRun u o t
+history_goes_on u o s c history carried = ∥∥₁_map history (λ run. (next run.0 c, ap (λ (x : State). (step u o x c).state) run.1 ∙ sym carried.left))
 
-module _ {T O : Type 0} {t : _} (uses : T → Relations) (orders : O → Order) (before : Book T O t) (c : Call) where
+module _ {T O : Type 0} {t p : _} (uses : T → Relations) (orders : O → Order) (before : Book T O t p) (c : Call) where
   -- the call of the book is carried out, and leaves the state
   abbrev pub CarriedOutIn : Result Answer Refusal → Report → State → Type 0
   CarriedOutIn a r left = CarriedOut (uses (table_of before)) (orders (order_of before)) (state_of before) c a r left
 
   -- a call that is refused, as the exit of a `?` leaves it
-  pub done_refused : (after : Book T O t) (a : Result Answer Refusal) (e : Refusal) (r : Report) → IsErrAnd a (λ y. y ≡ e) → refusal (checks (uses (table_of before)) (state_of before) c) ≡ Some (number e) → r ≡ report_of [] [] → state_of after ≡ state_of before → after.policy ≡ before.policy → CarriesOut uses orders before c a r after
+  pub done_refused : (after : Book T O t p) (a : Result Answer Refusal) (e : Refusal) (r : Report) → IsErrAnd a (λ y. y ≡ e) → refusal (checks (uses (table_of before)) (state_of before) c) ≡ Some (number e) → r ≡ report_of [] [] → state_of after ≡ state_of before → after.policy ≡ before.policy → CarriesOut uses orders before c a r after
   done_refused after a e r exits h is same stays =
       let p = err_from_is_err_and a exits in
       rw (p.1, p.2)

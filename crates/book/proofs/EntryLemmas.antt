@@ -7,7 +7,7 @@ use Rattle.std.proofs.lemmas.Bool.Decides.{nat_tests}
 use Rattle.uses.specs.Relations.{Relations}
 use Rattle.orders.specs.Laws.{OrderLaws}
 use Rattle.model.specs.Search.{any, find}
-use Rattle.model.specs.Claims.{InLine, in_line, of, blocks, waits, waits_for, dispatch_waits, waiting_section}
+use Rattle.model.specs.Claims.{InLine, in_line, of, blocks, waits, dispatch_waits, waiting_section}
 use Rattle.model.specs.State.{State, is_open, state_with_claim}
 use Rattle.model.specs.Recalling.{Order, Recalled, nobody, first, on_cycles, recall_result}
 use Rattle.model.specs.Calls.{Effect, claimed, claim_answer, is_named, after_entry, answer_granted, answer_waits, answer_recalled, report_of, woken}
@@ -17,8 +17,7 @@ use Rattle.model.specs.declared.report.ReportEntry.{ReportEntry}
 use Rattle.model.specs.declared.state.Claim.{Claim}
 use Rattle.model.specs.declared.state.Detection.{Detection}
 use Rattle.model.specs.declared.state.Detection.TheVariants.{Continuous, Periodic}
-use Rattle.model.proofs.Graphs.{leads_wider}
-use Rattle.model.proofs.ClaimLists.{dispatch_waits_push, no_edge, placed_push, waiting_section_some}
+use Rattle.model.proofs.ClaimLists.{dispatch_waits_push, no_new_cycle, placed_push, waiting_section_some}
 use Rattle.model.proofs.Keeps.{consistent_few, consistent_grounded, entered_consistent}
 use Rattle.model.proofs.Numbers.{open_closed}
 use Rattle.model.proofs.Recalls.{Grounded, Recalls, done, next, recalling_recalls, in_cycles, first_some}
@@ -132,7 +131,7 @@ module _ (u : Relations) (o : Order) (lawful : OrderLaws o) (s : State) (c : Cla
   module _ (report : Report) (after : State) (is : after ≡ t) where
     -- in a continuous book where no cycle stood, a claim that nothing blocks closes none
     still_clear : any (λ b. blocks u b c) s.claims ≡ false → NoCycle u s → NoCycle u t
-    still_clear free clear d cycle = clear d (leads_wider (waits_for u t.claims) (waits_for u s.claims) (λ a b h. sym (no_edge u s.claims c free a b) ∙ h) cycle)
+    still_clear free clear d cycle = clear d (no_new_cycle u s.claims c runs free d cycle)
 
     -- a claim that nothing blocks is granted
     pub enters_free : report ≡ report_of [] [] → any (λ b. blocks u b c) s.claims ≡ false → (s.detection ≡ Continuous → NoCycle u s) → EntersClaim u o s c answer.Granted report after

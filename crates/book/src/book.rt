@@ -1,7 +1,7 @@
 // The book.
 ghost use Rattle.std.specs.Prelude.{◌≡◌, [], ◌∷◌, length, ◌↔◌, IsTrue};
 ghost use Rattle.dispatch_set.specs.DispatchSet.{contains};
-ghost use Rattle.model.specs.Invariant.{Invariant};
+ghost use Rattle.model.specs.Runs.{HasRun};
 ghost use Rattle.book.specs.Tables.{state};
 
 use crate::answer::{Answer, Refusal, Status};
@@ -18,15 +18,14 @@ use uses::table::UseTable;
 /// A dispatch book (a lock manager) over a use table and a recall order. It holds at most 64
 /// dispatches, 1024 sections and 512 claims, in fixed memory.
 #[derive(Drop)]
-pub struct Book<T: UseTable, O> {
+pub struct Book<T: UseTable, O: RecallOrder> {
     pub(crate) policy: Policy<T, O>,
     pub(crate) tables: Tables,
-    // what holds at every moment of every run: the state is well formed, and in a continuous book
-    // no cycle of waits stands
-    ghost kept: { Invariant (T.meaning policy.table) (state tables) },
+    // some run of calls has led to the tables: what holds of every run holds of every book
+    ghost history: { HasRun (T.meaning policy.table) (O.meaning policy.order) (state tables) },
 }
 
-impl<T: UseTable, O> Book<T, O> {
+impl<T: UseTable, O: RecallOrder> Book<T, O> {
     ghost use Rattle.model.specs.State.{new as new_state};
     ghost use Rattle.model.specs.Calls.{number_too_high, section_too_high};
     ghost use Rattle.model.specs.Questions.{waited_for as waited_for_by, holders as holders_of};
@@ -223,8 +222,9 @@ impl<T: UseTable, O: RecallOrder> Book<T, O> {
         Ok(Answer::Ok)
     }
 
-    /// Carries out any call, by its own checks. Every run of calls that has led to the book goes on
-    /// lawfully: with this call and this outcome added it keeps exclusion, progress and recall.
+    /// Carries out any call, by its own checks. A run of calls has led to the book, and each that has
+    /// goes on lawfully: with this call and this outcome added it keeps exclusion, progress and
+    /// recall.
     pub fn carry_out(&mut self, asked: Call, report: &mut Report) -> Result<Answer, Refusal>
         ensures done { CarriesOut T.meaning O.meaning self.old asked result report.new self.new }
         ensures law { KeepsLaw T.meaning O.meaning self.old asked result report.new self.new }

@@ -164,7 +164,7 @@ fn claim_answer<T: UseTable>(table: &T, tables: &Tables, dispatch: u8) -> Answer
 }
 
 // Enters a claim of a dispatch that runs. In a continuous book a claim that is blocked is looked at
-// for cycles; one that nothing blocks adds no step of waiting, and no cycle stood before.
+// for cycles; one that nothing blocks closes none, and none stood before.
 pub fn enter_claim<T: UseTable, O: RecallOrder>(
     policy: &Policy<T, O>,
     tables: &mut Tables,

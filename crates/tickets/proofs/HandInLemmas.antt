@@ -12,19 +12,20 @@ use Rattle.model.specs.declared.call.Call.TheVariants as call
 use Rattle.model.specs.declared.report.Report.{Report}
 use Rattle.model.specs.declared.state.Condition.{Condition}
 use Rattle.model.specs.declared.state.Condition.TheVariants.{Free, Running, Waiting, Recalled}
+use Rattle.model.proofs.Grants.{led_invariant}
 use Rattle.model.proofs.Numbers.{open_closed}
 use Rattle.book.specs.Answer.{number}
 use Rattle.model.specs.declared.limits.TheConstants.{DISPATCHES}
 use Rattle.book.specs.Book.{CarriedOut}
 use Rattle.book.specs.Tables.{state}
 use Rattle.book.specs.declared.book.Book.{Book}
-use Rattle.book.proofs.RunLemmas.{asked_made}
+use Rattle.book.proofs.RunLemmas.{HasHistory, asked_made}
 use Rattle.book.specs.declared.answer.Answer.{Answer}
 use Rattle.book.specs.declared.answer.Refusal.{Refusal}
 use Rattle.book.specs.declared.answer.Refusal.TheVariants.{NumberTooHigh, SectionTooHigh, NotKnown, WeightTooHigh, IsRecalled, IsOpen, IsFree, IsWaiting, NoRoom, NotRecalled}
 use Rattle.tickets.specs.Ticket.{CountsAs, EndsBy, book_answer, condition_in, hand_in_call, hand_in_answer}
 use Rattle.tickets.specs.declared.ticket.Ending.{Ending}
-use Rattle.tickets.proofs.CarriedOutLemmas.{left_by, passed, failed, answered_ok}
+use Rattle.tickets.proofs.CarriedOutLemmas.{left_by, answered_ok}
 
 -- the refusal with number 7
 seventh : (e : Refusal) → number e ≡ 7 → e ≡ IsFree
@@ -69,11 +70,11 @@ module _ (u : Relations) (s : State) (d : ℕ) (small : d < DISPATCHES) where
   module _ (o : Order) (r : Report) (t : State) where
     -- a hand-in that is refused says that the number is free
     refused_free : (k : Condition) → condition u s d ≡ k → (e : Refusal) → CarriedOut u o s (hand_in_call k d) (Err e) r t → ◌≡◌ {A = Result Ending Refusal} (Err e) (hand_in_answer k)
-    refused_free Running is e h = apart (refusal (checks u s (call.Close d))) (number e) (checked Running is) (failed u o s (call.Close d) r t e refl h)
-    refused_free Waiting is e h = apart (refusal (checks u s (call.Withdraw d))) (number e) (checked Waiting is) (failed u o s (call.Withdraw d) r t e refl h)
-    refused_free Recalled is e h = apart (refusal (checks u s (call.Acknowledge d))) (number e) (checked Recalled is) (failed u o s (call.Acknowledge d) r t e refl h)
+    refused_free Running is e h = apart (refusal (checks u s (call.Close d))) (number e) (checked Running is) h.verdict
+    refused_free Waiting is e h = apart (refusal (checks u s (call.Withdraw d))) (number e) (checked Waiting is) h.verdict
+    refused_free Recalled is e h = apart (refusal (checks u s (call.Acknowledge d))) (number e) (checked Recalled is) h.verdict
     refused_free Free is e h =
-        let seven = same (refusal (checks u s (call.Close d))) (number e) 7 (failed u o s (call.Close d) r t e refl h) (checked Free is) in
+        let seven = same (refusal (checks u s (call.Close d))) (number e) 7 h.verdict (checked Free is) in
         ap (λ (x : Refusal). Err x) (seventh e seven)
 
     -- a hand-in that is answered is answered ok, by a call that was not refused
@@ -82,7 +83,7 @@ module _ (u : Relations) (s : State) (d : ℕ) (small : d < DISPATCHES) where
     answered_ended Waiting is a h = answered_ok u o s (call.Withdraw d) r t a refl h
     answered_ended Recalled is a h = answered_ok u o s (call.Acknowledge d) r t a refl h
     answered_ended Free is a h =
-        let clash : ◌≡◌ {A = ℕ} 0 1 = apart (refusal (checks u s (call.Close d))) 7 (passed u o s (call.Close d) r t a h) (checked Free is) in
+        let clash : ◌≡◌ {A = ℕ} 0 1 = apart (refusal (checks u s (call.Close d))) 7 h.verdict.0 (checked Free is) in
         absurd (omega (arith, clash))
 
     -- a hand-in answers what its dispatch's condition says, and that is what the book was answered
@@ -110,21 +111,21 @@ module _ (u : Relations) (s : State) (d : ℕ) (small : d < DISPATCHES) where
         ap (λ (x : State). is_free x d) (left_by u o s (call.Close d) r t a h (Some 7) (checked Free is)) ∙ free
 
 -- by the call that fits the told condition a hand-in keeps its promises
-module _ {T O : Type 0} {t : _} (uses : T → Relations) (laws : (x : T) → UseLaws (uses x)) (orders : O → Order) (lawful : (x : O) → OrderLaws (orders x)) (before after : Book T O t) (d : ℕ) (small : d < DISPATCHES) (r : Report) where
+module _ {T O : Type 0} {t p : _} (uses : T → Relations) (laws : (x : T) → UseLaws (uses x)) (orders : O → Order) (lawful : (x : O) → OrderLaws (orders x)) (before after : Book T O t p) (d : ℕ) (small : d < DISPATCHES) (r : Report) where
   -- what a hand-in promises
   abbrev HandsIn : Result Ending Refusal → Type 0
   HandsIn y = (y ≡ hand_in_answer (condition_in uses before d)) × CountsAs uses orders before (hand_in_call (condition_in uses before d) d) (book_answer y) r after × (is_free (state after.tables) d ≡ true)
 
   -- the promises, by the condition that was told and the call that fits it
-  pub hands_in : (k : Condition) (waits : Option ℕ) → condition_asked (uses before.policy.table) (state before.tables) d ≡ Ok (k, waits) → (y : Result Ending Refusal) → EndsBy uses orders before k d y r after → HandsIn y
-  hands_in k waits asked y (a, made, says) =
+  pub hands_in : HasHistory uses orders before → (k : Condition) (waits : Option ℕ) → condition_asked (uses before.policy.table) (state before.tables) d ≡ Ok (k, waits) → (y : Result Ending Refusal) → EndsBy uses orders before k d y r after → HandsIn y
+  hands_in history k waits asked y (a, made, says) =
       let u = uses before.policy.table in
       let o = orders before.policy.order in
       let s = state before.tables in
       let is = condition_told u s d small k waits asked in
       let done = ended u s d small o r (state after.tables) k is a y says made.carried in
-      let both = asked_made uses laws orders lawful before after (hand_in_call (condition_in uses before d) d) (hand_in_call k d) (book_answer y) r (ap (λ (x : Condition). hand_in_call x d) is) (record { carried = done.1; policy = made.policy }) in (
+      let both = asked_made uses laws orders lawful before after history (hand_in_call (condition_in uses before d) d) (hand_in_call k d) (book_answer y) r (ap (λ (x : Condition). hand_in_call x d) is) (record { carried = done.1; policy = made.policy }) in (
         done.0 ∙ ap hand_in_answer (sym is),
         record { carried = both.0; law = both.1 },
-        free_after u s d small o r (state after.tables) k is (before.kept.well_formed.consistent.disjoint d) a made.carried,
+        free_after u s d small o r (state after.tables) k is ((led_invariant u (laws before.policy.table) o (lawful before.policy.order) s history).well_formed.consistent.disjoint d) a made.carried,
       )

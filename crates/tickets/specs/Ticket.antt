@@ -34,7 +34,7 @@ book_answer (Ok x) = Ok answer.Ok
 book_answer (Err refusal) = Err refusal
 
 -- how a dispatch stands in a book, by the meaning of its table
-abbrev pub condition_in : {T O : Type 0} {t : _} → (T → Relations) → Book T O t → ℕ → Condition
+abbrev pub condition_in : {T O : Type 0} {t p : _} → (T → Relations) → Book T O t p → ℕ → Condition
 condition_in uses b d = condition (uses (table_of b)) (state_of b) d
 
 -- the call that a hand-in counts as
@@ -52,16 +52,16 @@ hand_in_answer Recalled = Ok Acknowledged
 hand_in_answer Free = Err IsFree
 
 -- below, `uses` and `orders` give the meanings of tables and of orders
-module _ {T O : Type 0} {t : _}
-    (uses : T → Relations) (orders : O → Order) (before : Book T O t) where
-  module _ (c : Call) (answer : Result Answer Refusal) (r : Report) (after : Book T O t) where
+module _ {T O : Type 0} {t p : _}
+    (uses : T → Relations) (orders : O → Order) (before : Book T O t p) where
+  module _ (c : Call) (answer : Result Answer Refusal) (r : Report) (after : Book T O t p) where
     -- a ticket's call counts as a call of the book: that is carried out, and the law is kept
     pub record CountsAs : Type 0 where
       pub carried : CarriesOut uses orders before c answer r after
       pub law : KeepsLaw uses orders before c answer r after
 
   module _ (k : Condition) (d : ℕ)
-      (y : Result Ending Refusal) (r : Report) (after : Book T O t) where
+      (y : Result Ending Refusal) (r : Report) (after : Book T O t p) where
     -- the call that fits the condition was made; where it was not refused, the ending is named
     abbrev pub EndsBy : Type 0
     EndsBy =

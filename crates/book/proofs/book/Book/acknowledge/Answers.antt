@@ -4,7 +4,7 @@ use Rattle.model.specs.declared.call.Call.TheVariants as call
 use Rattle.model.proofs.Wakes.{woken_same}
 use Rattle.book.specs.Tables.{state}
 use Rattle.book.specs.declared.answer.Answer.TheVariants as answer
-use Rattle.book.proofs.CallLemmas.{carried_plain, kept, CarriedOutIn, done_refused}
+use Rattle.book.proofs.CallLemmas.{carried_plain, history_goes_on, CarriedOutIn, done_refused}
 use Rattle.book.proofs.book.Book.acknowledge.Given as given
 use Rattle.book.proofs.book.Book.acknowledge.Goals as goal
 use Rattle.book.proofs.book.Book.acknowledge.Goals.{After-acknowledge}
@@ -26,7 +26,7 @@ carried g c =
 pub invariant_of-self : goal.invariant_of-self
 invariant_of-self g c =
     let b = c.args.self.now in
-    record { kept = kept (g.T.UseTable.meaning b.policy.table) (g.O.RecallOrder.meaning b.policy.order) (g.met.O.RecallOrder.lawful b.policy.order) (state b.tables) (call.Acknowledge c.args.dispatch) b.kept (carried g (goal.at.invariant_of-self g c).After-acknowledge) }
+    record { history = history_goes_on (g.T.UseTable.meaning b.policy.table) (g.O.RecallOrder.meaning b.policy.order) (state b.tables) (call.Acknowledge c.args.dispatch) b.history (carried g (goal.at.invariant_of-self g c).After-acknowledge) }
 
 pub returns : goal.returns
 returns g c = record { carried = carried g (goal.at.returns g c).After-acknowledge; policy = refl }

@@ -4,8 +4,9 @@ use Rattle.model.specs.Calls.{entry_checks, no_room}
 use Rattle.model.specs.declared.call.Call.TheVariants as call
 use Rattle.model.proofs.Steps.{asked}
 use Rattle.book.specs.Answer.{number}
+use Rattle.model.proofs.Grants.{led_invariant}
 use Rattle.book.specs.Tables.{state}
-use Rattle.book.proofs.CallLemmas.{kept, CarriedOutIn, done_refused, refusal_first}
+use Rattle.book.proofs.CallLemmas.{history_goes_on, CarriedOutIn, done_refused, refusal_first}
 use Rattle.book.proofs.ClaimCallLemmas.{passed_at, passed_in_range, passed_runs, asked_covered, asked_no_room, asked_entered}
 use Rattle.book.proofs.book.Book.claim.Given as given
 use Rattle.book.proofs.book.Book.claim.Goals as goal
@@ -47,7 +48,7 @@ enter_claim-requires g c =
       in_range = passed_in_range u o (state b.tables) c.in_ok-claim.claim passed;
       runs = passed_runs u o (state b.tables) c.in_ok-claim.claim passed;
       room = leb-false 512 _ (sym c.if-is_full.ensures);
-      clear = b.kept.no_cycle;
+      clear = (led_invariant (g.T.UseTable.meaning b.policy.table) (g.met.T.UseTable.lawful b.policy.table) (g.O.RecallOrder.meaning b.policy.order) (g.met.O.RecallOrder.lawful b.policy.order) (state b.tables) b.history).no_cycle;
       empty = c.empty.ensures;
     }
 
@@ -60,7 +61,7 @@ carried g c =
 pub invariant_of-self-4 : goal.invariant_of-self-4
 invariant_of-self-4 g c =
     let b = c.args.self.now in
-    record { kept = kept (g.T.UseTable.meaning b.policy.table) (g.O.RecallOrder.meaning b.policy.order) (g.met.O.RecallOrder.lawful b.policy.order) (state b.tables) (call.Claim c.args.dispatch c.args.section c.args.mode) b.kept (carried g (goal.at.invariant_of-self-4 g c).After-enter_claim) }
+    record { history = history_goes_on (g.T.UseTable.meaning b.policy.table) (g.O.RecallOrder.meaning b.policy.order) (state b.tables) (call.Claim c.args.dispatch c.args.section c.args.mode) b.history (carried g (goal.at.invariant_of-self-4 g c).After-enter_claim) }
 
 pub returns : goal.returns
 returns g c = record { carried = carried g (goal.at.returns g c).After-enter_claim; policy = refl }

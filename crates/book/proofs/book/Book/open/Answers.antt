@@ -6,7 +6,7 @@ use Rattle.model.proofs.Steps.{passed_opening}
 use Rattle.model.proofs.Wakes.{woken_same}
 use Rattle.book.specs.Tables.{state}
 use Rattle.book.specs.declared.answer.Answer.TheVariants as answer
-use Rattle.book.proofs.CallLemmas.{carried_plain, kept, CarriedOutIn, done_refused}
+use Rattle.book.proofs.CallLemmas.{carried_plain, history_goes_on, CarriedOutIn, done_refused}
 use Rattle.book.proofs.book.Book.open.Given as given
 use Rattle.book.proofs.book.Book.open.Goals as goal
 use Rattle.book.proofs.book.Book.open.Goals.{After-open}
@@ -36,7 +36,7 @@ carried g c =
 pub invariant_of-self : goal.invariant_of-self
 invariant_of-self g c =
     let b = c.args.self.now in
-    record { kept = kept (g.T.UseTable.meaning b.policy.table) (g.O.RecallOrder.meaning b.policy.order) (g.met.O.RecallOrder.lawful b.policy.order) (state b.tables) (call.Open c.args.dispatch c.args.weight) b.kept (carried g (goal.at.invariant_of-self g c).After-open) }
+    record { history = history_goes_on (g.T.UseTable.meaning b.policy.table) (g.O.RecallOrder.meaning b.policy.order) (state b.tables) (call.Open c.args.dispatch c.args.weight) b.history (carried g (goal.at.invariant_of-self g c).After-open) }
 
 pub returns : goal.returns
 returns g c = record { carried = carried g (goal.at.returns g c).After-open; policy = refl }

@@ -2,9 +2,10 @@ use Rattle.std.proofs.Common.{Ok, refl, sym, ap, ◌∙◌}
 use Rattle.model.specs.Calls.{swept}
 use Rattle.model.specs.Recalling.{Recalled, recall_result}
 use Rattle.model.specs.declared.call.Call.TheVariants as call
+use Rattle.model.proofs.Grants.{led_invariant}
 use Rattle.book.specs.Tables.{state}
 use Rattle.book.specs.declared.answer.Answer.TheVariants as answer
-use Rattle.book.proofs.CallLemmas.{carried_accepted, kept, CarriedOutIn}
+use Rattle.book.proofs.CallLemmas.{carried_accepted, history_goes_on, CarriedOutIn}
 use Rattle.book.proofs.EntryLemmas.{recall_result-clear, report-nobody}
 use Rattle.book.proofs.book.Book.sweep.Given as given
 use Rattle.book.proofs.book.Book.sweep.Goals as goal
@@ -21,7 +22,7 @@ swept_now g c =
 pub invariant_of-self : goal.invariant_of-self
 invariant_of-self g c =
     let b = c.args.self.now in
-    record { kept = kept (g.T.UseTable.meaning b.policy.table) (g.O.RecallOrder.meaning b.policy.order) (g.met.O.RecallOrder.lawful b.policy.order) (state b.tables) call.Sweep b.kept (swept_now g (goal.at.invariant_of-self g c).After-sweep) }
+    record { history = history_goes_on (g.T.UseTable.meaning b.policy.table) (g.O.RecallOrder.meaning b.policy.order) (state b.tables) call.Sweep b.history (swept_now g (goal.at.invariant_of-self g c).After-sweep) }
 
 pub returns-in-Periodic : goal.returns-in-Periodic
 returns-in-Periodic g c = record { carried = swept_now g (goal.at.returns-in-Periodic g c).After-sweep; policy = refl }
@@ -33,7 +34,7 @@ returns-in-Continuous g c =
     let u = g.T.UseTable.meaning b.policy.table in
     let o = g.O.RecallOrder.meaning b.policy.order in
     let s = state b.tables in
-    let nobody = recall_result-clear u o (g.met.O.RecallOrder.lawful b.policy.order) s b.tables.consistent (b.kept.no_cycle c.in-Continuous.is) in
+    let nobody = recall_result-clear u o (g.met.O.RecallOrder.lawful b.policy.order) s b.tables.consistent ((led_invariant (g.T.UseTable.meaning b.policy.table) (g.met.T.UseTable.lawful b.policy.table) (g.O.RecallOrder.meaning b.policy.order) (g.met.O.RecallOrder.lawful b.policy.order) (state b.tables) b.history).no_cycle c.in-Continuous.is) in
     record {
       carried = carried_accepted u o s call.Sweep answer.Ok (swept (recall_result u o s)) c.empty.result s refl refl refl (c.empty.ensures ∙ report-nobody u s (recall_result u o s) nobody) (sym (ap (λ (r : Recalled). r.state) nobody));
       policy = refl;

@@ -2,7 +2,7 @@ use Rattle.std.proofs.Common.{Ok, refl}
 use Rattle.model.specs.declared.call.Call.TheVariants as call
 use Rattle.book.specs.Tables.{state}
 use Rattle.book.specs.declared.answer.Answer.TheVariants as answer
-use Rattle.book.proofs.CallLemmas.{carried_end, kept, CarriedOutIn, done_refused}
+use Rattle.book.proofs.CallLemmas.{carried_end, history_goes_on, CarriedOutIn, done_refused}
 use Rattle.book.proofs.book.Book.withdraw.Given as given
 use Rattle.book.proofs.book.Book.withdraw.Goals as goal
 use Rattle.book.proofs.book.Book.withdraw.Goals.{After-end}
@@ -21,7 +21,7 @@ carried g c =
 pub invariant_of-self : goal.invariant_of-self
 invariant_of-self g c =
     let b = c.args.self.now in
-    record { kept = kept (g.T.UseTable.meaning b.policy.table) (g.O.RecallOrder.meaning b.policy.order) (g.met.O.RecallOrder.lawful b.policy.order) (state b.tables) (call.Withdraw c.args.dispatch) b.kept (carried g (goal.at.invariant_of-self g c).After-end) }
+    record { history = history_goes_on (g.T.UseTable.meaning b.policy.table) (g.O.RecallOrder.meaning b.policy.order) (state b.tables) (call.Withdraw c.args.dispatch) b.history (carried g (goal.at.invariant_of-self g c).After-end) }
 
 pub returns : goal.returns
 returns g c = record { carried = carried g (goal.at.returns g c).After-end; policy = refl }
