@@ -1,5 +1,5 @@
 -- Worked examples: lines with what each is read as, outcomes with all that is printed for each, and
--- the places of faults. They can be checked by hand.
+-- faults with the number, the place and the layer of each. They can be checked by hand.
 use Rattle.std.specs.Prelude.{◌≡◌, ℕ, List, [], ◌∷◌, replicate, codes, Ok, Err, Result}
 use Rattle.std.specs.List.{AllByRecursion}
 use Rattle.model.specs.declared.call.Call.{Call}
@@ -8,11 +8,13 @@ use Rattle.model.specs.declared.report.ReportEntry.{ReportEntry}
 use Rattle.book.specs.declared.answer.Answer.{Answer}
 use Rattle.book.specs.declared.answer.Answer.TheVariants as answer
 use Rattle.book.specs.declared.answer.Refusal.TheVariants.{NumberTooHigh, SectionTooHigh, NotKnown, WeightTooHigh, IsRecalled, IsOpen, IsFree, IsWaiting, NoRoom, NotRecalled}
-use Rattle.protocol.specs.Faults.{fault_place}
+use Rattle.protocol.specs.Faults.{fault_number, fault_place, fault_layer}
 use Rattle.protocol.specs.Reading.{Reading}
 use Rattle.protocol.specs.Words.{printed, reply_to}
 use Rattle.protocol.specs.declared.fault.Fault.{Fault}
 use Rattle.protocol.specs.declared.fault.Fault.TheVariants.{TooManyLines, TooLong, NoLetter, WrongForm, Refused}
+use Rattle.protocol.specs.declared.fault.Layer.{Layer}
+use Rattle.protocol.specs.declared.fault.Layer.TheVariants.{Line, UseTable, Book}
 
 -- a line, and the call or the fault that it is read as
 pub record LineRead : Type 0 where
@@ -71,7 +73,7 @@ abbrev pub alone : ℕ → Result Answer Fault → List ℕ → Printing
 alone number outcome text =
     record { number = number; outcome = outcome; recalls = []; wakes = []; text = text }
 
--- each answer, each refusal, each fault of a line, and an outcome with two recalled and one woken
+-- each answer, each refusal, each fault of a line, and two outcomes with recalled and woken
 abbrev pub printings : List Printing
 printings =
     alone 1 (Ok answer.Ok) (codes "1 ok\n")
@@ -99,25 +101,52 @@ printings =
           record { dispatch = 4; section = 12 } ∷ record { dispatch = 2; section = 1023 } ∷ [];
       wakes = record { dispatch = 1; section = 0 } ∷ [];
       text = codes "18 recalled\n18 recall 4 12\n18 recall 2 1023\n18 wake 1 0\n";
+    }
+    ∷ record {
+      number = 19;
+      outcome = Ok answer.Ok;
+      recalls =
+          record { dispatch = 63; section = 9 } ∷ record { dispatch = 10; section = 100 } ∷ [];
+      wakes = record { dispatch = 42; section = 7 } ∷ record { dispatch = 30; section = 25 } ∷ [];
+      text = codes "19 ok\n19 recall 63 9\n19 recall 10 100\n19 wake 42 7\n19 wake 30 25\n";
     } ∷ []
 
--- faults and their places
-abbrev pub places : List (Fault × ℕ)
-places =
-    (TooManyLines, 1)
-    ∷ (TooLong, 33)
-    ∷ (NoLetter, 1)
-    ∷ (WrongForm 4, 4)
-    ∷ (Refused NumberTooHigh, 1)
-    ∷ (Refused SectionTooHigh, 2)
-    ∷ (Refused NotKnown, 3)
-    ∷ (Refused WeightTooHigh, 2)
-    ∷ (Refused IsRecalled, 1)
-    ∷ (Refused IsOpen, 1)
-    ∷ (Refused IsFree, 1)
-    ∷ (Refused IsWaiting, 1)
-    ∷ (Refused NoRoom, 2)
-    ∷ (Refused NotRecalled, 1)
+-- a fault, with its number, its place and its layer
+pub record FaultRow : Type 0 where
+  pub fault : Fault
+  pub number : ℕ
+  pub place : ℕ
+  pub layer : Layer
+
+-- a row of the table of faults
+abbrev pub row : Fault → ℕ → ℕ → Layer → FaultRow
+row fault number place layer =
+    record { fault = fault; number = number; place = place; layer = layer }
+
+-- the fault has the number, the place and the layer
+pub record IsFaultRow (x : FaultRow) : Type 0 where
+  pub numbered : fault_number x.fault ≡ x.number
+  pub placed : fault_place x.fault ≡ x.place
+  pub layered : fault_layer x.fault ≡ x.layer
+
+-- every fault of a line, two with their places, and every refusal
+abbrev pub faults : List FaultRow
+faults =
+    row TooManyLines 44 1 Line
+    ∷ row TooLong 41 33 Line
+    ∷ row NoLetter 42 1 Line
+    ∷ row (WrongForm 4) 43 4 Line
+    ∷ row (WrongForm 32) 43 32 Line
+    ∷ row (Refused NumberTooHigh) 1 1 Book
+    ∷ row (Refused SectionTooHigh) 2 2 Book
+    ∷ row (Refused NotKnown) 3 3 UseTable
+    ∷ row (Refused WeightTooHigh) 4 2 Book
+    ∷ row (Refused IsRecalled) 5 1 Book
+    ∷ row (Refused IsOpen) 6 1 Book
+    ∷ row (Refused IsFree) 7 1 Book
+    ∷ row (Refused IsWaiting) 8 1 Book
+    ∷ row (Refused NoRoom) 9 2 Book
+    ∷ row (Refused NotRecalled) 10 1 Book
     ∷ []
 
 -- the worked examples are right
@@ -125,4 +154,4 @@ pub record ExamplesRight : Type 0 where
   pub correct : AllByRecursion IsRead correct_lines
   pub wrong : AllByRecursion IsRead wrong_lines
   pub printing : AllByRecursion IsPrinted printings
-  pub placing : AllByRecursion (λ x. fault_place x.0 ≡ x.1) places
+  pub faulting : AllByRecursion IsFaultRow faults
