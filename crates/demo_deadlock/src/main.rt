@@ -13,23 +13,28 @@ use words::Sentence;
 
 mod words;
 
-// Station A's dispatch, and its dock.
+// Station A's dispatch, its weight, and its dock.
 const A: u32 = 1;
+
+const WEIGHT_A: u32 = 5;
 
 const DOCK_A: u32 = 10;
 
-// Station B's dispatch, and its dock.
+// Station B's dispatch, its weight, and its two docks. It weighs more and holds more than A's, so that
+// neither lightest nor fewest would recall it.
 const B: u32 = 2;
+
+const WEIGHT_B: u32 = 8;
 
 const DOCK_B: u32 = 11;
 
-const WEIGHT: u32 = 5;
+const SECOND_DOCK_B: u32 = 12;
 
 // What is printed before the calls that lead to the deadlock.
 const BEFORE_THE_DEADLOCK: &str = "THE STALL AT THE DOCKS
 
 Only one dispatch at a time may move on a dock.
-Each station takes its own dock, and then wants the other's.
+Each station takes its own docks, and then wants one of the other's.
 So each would wait for the other for ever. The book sees it at the last claim
 and recalls the dispatch that was opened last: all its claims are taken out,
 and the other dispatch goes on.
@@ -41,15 +46,15 @@ The dispatch that went on is closed. The recalled one is opened again, and now
 nothing is in its way.
 ";
 
-// Each station takes its own dock and then wants the other's.
-const DEADLOCK: [Call; 6] = [
+// Each station takes its own docks, and then wants one of the other's.
+const DEADLOCK: [Call; 7] = [
     Call::Open {
         dispatch: A,
-        weight: WEIGHT,
+        weight: WEIGHT_A,
     },
     Call::Open {
         dispatch: B,
-        weight: WEIGHT,
+        weight: WEIGHT_B,
     },
     Call::Claim {
         dispatch: A,
@@ -59,6 +64,11 @@ const DEADLOCK: [Call; 6] = [
     Call::Claim {
         dispatch: B,
         section: DOCK_B,
+        mode: MOVE,
+    },
+    Call::Claim {
+        dispatch: B,
+        section: SECOND_DOCK_B,
         mode: MOVE,
     },
     Call::Claim {
@@ -79,7 +89,7 @@ const AFTER: [Call; 6] = [
     Call::Close { dispatch: A },
     Call::Open {
         dispatch: B,
-        weight: WEIGHT,
+        weight: WEIGHT_B,
     },
     Call::Claim {
         dispatch: B,

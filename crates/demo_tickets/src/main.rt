@@ -13,27 +13,33 @@ use std::io;
 use tickets::ticket::{Ending, Ticket};
 use uses::two_uses::{MOVE, TwoUses};
 
-// This station's dispatch, and its way: its own dock, the span between, the far dock.
+// This station's dispatch, its weight, and its way: its own dock and feeder, the span between, the
+// far dock.
 const OURS: u32 = 1;
 
+const OUR_WEIGHT: u32 = 8;
+
 const DOCK: u32 = 10;
+
+const FEEDER: u32 = 15;
 
 const SPAN: u32 = 20;
 
 const FAR_DOCK: u32 = 11;
 
-const WAY: [u32; 3] = [DOCK, SPAN, FAR_DOCK];
+const WAY: [u32; 4] = [DOCK, FEEDER, SPAN, FAR_DOCK];
 
-// The far station's dispatch. That station has a program of its own.
+// The far station's dispatch, and its weight. That station has a program of its own. It weighs less
+// and holds less than ours, so that lightest and fewest would recall it.
 const THEIRS: u32 = 2;
 
-const WEIGHT: u32 = 5;
+const THEIR_WEIGHT: u32 = 5;
 
 // It opens, and moves on the span.
 const THEY_COME: [Call; 2] = [
     Call::Open {
         dispatch: THEIRS,
-        weight: WEIGHT,
+        weight: THEIR_WEIGHT,
     },
     Call::Claim {
         dispatch: THEIRS,
@@ -91,7 +97,7 @@ fn travel(
     meanwhile: &[Call],
 ) -> Result<Trip, Refusal> {
     let mut report = Report::empty();
-    let ticket = Ticket::open(book, OURS, WEIGHT, &mut report)?;
+    let ticket = Ticket::open(book, OURS, OUR_WEIGHT, &mut report)?;
     let granted = advance(book, &ticket, way, meanwhile);
     let ending = ticket.hand_in(book, &mut report)?;
     Ok(Trip { granted, ending })
