@@ -1,23 +1,25 @@
 -- The examples of the law are right.
-use Rattle.std.proofs.Common.{◌≡◌, ℕ, zero, suc, Bool, true, ◌&&◌, List, [], ◌∷◌, refl, sym, inl, inr, ⊎_elim, arith, rules}
+use Rattle.std.proofs.Common.{◌≡◌, ℕ, zero, suc, Bool, true, false, ◌&&◌, List, [], ◌∷◌, refl, sym, ◌∙◌, inl, inr, ⊎_elim, arith, rules}
 use Rattle.std.proofs.lemmas.Bool.{false≢true, and_parts}
+use Rattle.std.proofs.lemmas.Bool.Decides.{nat_tests}
 use Rattle.uses.specs.Relations.{UseLaws}
 use Rattle.uses.specs.TwoUses.{two_uses}
 use Rattle.orders.specs.Laws.{OrderLaws}
 use Rattle.orders.specs.Orders.{newest}
-use Rattle.model.specs.Graph.{OnCycle, HasCycle, closure, Chain}
+use Rattle.model.specs.Graph.{Leads, OnCycle, HasCycle, closure, Chain}
 use Rattle.model.specs.Graph.Leads.{one, more}
 use Rattle.model.specs.Claims.{waits_for}
 use Rattle.model.specs.Recalling.{on_cycles, recall_result_within, recall_result}
-use Rattle.model.specs.Calls.{step}
+use Rattle.model.specs.Calls.{claim_of, step}
 use Rattle.model.specs.Runs.{start, next, at, Grants, by_grant, by_cover, by_wake, HasGrant, just_now, before}
 use Rattle.model.specs.Law.{Exclusion, IsRunning, WaitsEnd, LawWhere, Law}
 use Rattle.model.specs.Examples.{look, move}
-use Rattle.model.specs.LawExamples.{LawExamplesRight, two_docks_run, one_waits_run, two_stations_run, covered_run, one_sided, one_sided_run, deadlock, queue_of, behind_nobody, entry, recalling, changed_after, MayNotLeave, MayNotRecall, NoTimeToRecall}
+use Rattle.model.specs.LawExamples.{LawExamplesRight, two_docks_run, one_waits_run, two_stations_run, looked_at_run, two_wait_run, covered_run, one_sided, one_sided_run, deadlock, queue_of, behind_nobody, entry, recalling, changed_after, MayNotLeave, MayNotRecall, NoTimeToRecall}
 use Rattle.model.proofs.LawHolds.{law}
 use Rattle.model.proofs.Graphs.{first_step}
 use Rattle.model.proofs.Grants.{run_invariant}
-use Rattle.model.specs.declared.call.Call.TheVariants.{Open, Claim, Close, Sweep}
+use Rattle.model.specs.declared.call.Call.TheVariants.{Open, Claim, Close, Withdraw, Acknowledge, Sweep}
+use Rattle.model.specs.declared.state.Claim.{Claim as ClaimEntry}
 use Rattle.model.specs.declared.state.Detection.TheVariants.{Continuous, Periodic}
 
 by_answer : HasGrant two_uses newest (two_stations_run Continuous) 1 10 move
@@ -145,15 +147,56 @@ opens : MayNotRecall (two_stations_run Periodic) (Open 3 5) (2 ∷ [])
 unfolding step closure on_cycles recall_result_within recall_result
 opens h = ⊎_elim (λ e. cc) (λ entry. entry.1) (h.recall_when.1.by_no_other (λ e. cc))
 
+closes : MayNotRecall (next (two_stations_run Periodic) (Open 3 5)) (Close 3) (2 ∷ [])
+unfolding step closure on_cycles recall_result_within recall_result
+closes h = ⊎_elim (λ e. cc) (λ entry. entry.1) (h.recall_when.1.by_no_other (λ e. cc))
+
+withdraws : MayNotRecall (two_stations_run Periodic) (Withdraw 1) (2 ∷ [])
+unfolding step closure on_cycles recall_result_within recall_result
+withdraws h = ⊎_elim (λ e. cc) (λ entry. entry.1) (h.recall_when.1.by_no_other (λ e. cc))
+
+acknowledges : MayNotRecall (two_stations_run Periodic) (Acknowledge 3) (2 ∷ [])
+unfolding step closure on_cycles recall_result_within recall_result
+acknowledges h = ⊎_elim (λ e. cc) (λ entry. entry.1) (h.recall_when.1.by_no_other (λ e. cc))
+
 covered : MayNotRecall (one_waits_run Continuous) (Claim 2 11 look) (2 ∷ [])
 unfolding step closure on_cycles recall_result_within recall_result
 covered h = ⊎_elim (λ e. cc) (λ entry. entry.1) (h.recall_when.1.by_no_other (λ e. cc))
 
-off_cycle : MayNotRecall (next (one_waits_run Continuous) (Open 3 5)) (Claim 2 10 move) (3 ∷ [])
+-- what leads to a number has a last step
+last_step : (r : ℕ → ℕ → Bool) {a b : ℕ} → Leads r a b → (c : ℕ) × (r c b ≡ true)
+last_step r (one h) = (_, h)
+last_step r (more h l) = last_step r l
+
+-- the claims once 2 has claimed the section of 1, which waits for both lookers
+abbrev looked_at : List ClaimEntry
+looked_at =
+    claim_of 1 10 move ∷ claim_of 2 11 look ∷ claim_of 3 11 look ∷ claim_of 1 11 move
+    ∷ claim_of 2 10 move ∷ []
+
+waits_for_nobody : (e : ℕ) → waits_for two_uses looked_at 3 e ≡ false
+waits_for_nobody e = grind (arith, nat_tests)
+
+before_cycle : MayNotRecall looked_at_run (Claim 2 10 move) (3 ∷ [])
 unfolding step closure on_cycles recall_result_within recall_result
-off_cycle h =
-    let out = first_step (waits_for two_uses deadlock.claims) (h.recall_whom.1 [] [] (entry 3) refl).on_cycle in
-    false≢true out.1
+before_cycle h =
+    let out = first_step (waits_for two_uses looked_at) (h.recall_whom.1 [] [] (entry 3) refl).on_cycle in
+    false≢true (sym (waits_for_nobody out.0) ∙ out.1)
+
+-- the claims once 2 has claimed the section of 1, and 3 waits behind both
+abbrev two_wait : List ClaimEntry
+two_wait =
+    claim_of 1 10 move ∷ claim_of 2 11 move ∷ claim_of 1 11 move ∷ claim_of 3 11 look
+    ∷ claim_of 2 10 move ∷ []
+
+waited_for_by_nobody : (e : ℕ) → waits_for two_uses two_wait e 3 ≡ false
+waited_for_by_nobody e = grind (arith, nat_tests)
+
+behind_cycle : MayNotRecall two_wait_run (Claim 2 10 move) (3 ∷ [])
+unfolding step closure on_cycles recall_result_within recall_result
+behind_cycle h =
+    let into = last_step (waits_for two_uses two_wait) (h.recall_whom.1 [] [] (entry 3) refl).on_cycle in
+    false≢true (sym (waited_for_by_nobody into.0) ∙ into.1)
 
 older : MayNotRecall (one_waits_run Continuous) (Claim 2 10 move) (1 ∷ [])
 unfolding step closure on_cycles recall_result_within recall_result
@@ -197,8 +240,12 @@ law_examples_right = record {
     sweeps_cycle = sweeps_cycle;
     too_early = too_early;
     opens = opens;
+    closes = closes;
+    withdraws = withdraws;
+    acknowledges = acknowledges;
     covered = covered;
-    off_cycle = off_cycle;
+    before_cycle = before_cycle;
+    behind_cycle = behind_cycle;
     older = older;
     one_more = one_more;
     ever_since = ever_since;

@@ -11,7 +11,7 @@ use Rattle.model.specs.Runs.{Run, start, next, at, outcome, HasGrant}
 use Rattle.model.specs.Law.{Exclusion, IsRunning, WaitsEnd, RecallWhen, LawWhere, Law}
 use Rattle.model.specs.Examples.{look, move}
 use Rattle.model.specs.declared.call.Call.{Call}
-use Rattle.model.specs.declared.call.Call.TheVariants.{Open, Claim, Close, Sweep}
+use Rattle.model.specs.declared.call.Call.TheVariants.{Open, Claim, Close, Withdraw, Acknowledge, Sweep}
 use Rattle.model.specs.declared.report.ReportEntry.{ReportEntry}
 use Rattle.model.specs.declared.state.Detection.{Detection}
 use Rattle.model.specs.declared.state.Detection.TheVariants.{Continuous, Periodic}
@@ -138,6 +138,16 @@ MayNotRecall r c ds = IsBroken r c (recalling r c ds)
 abbrev pub NoTimeToRecall : Run → Call → List ℕ → Type 0
 NoTimeToRecall r c ds = ¬ RecallWhen two_uses (at two_uses newest r) c (recalling r c ds)
 
+-- 1 moves on 10, 2 and 3 look at 11, and 1 waits to move there, for both
+abbrev pub looked_at_run : Run
+looked_at_run =
+    next (next (next (next (next (two_open_run Continuous) (Open 3 5)) (Claim 1 10 move))
+    (Claim 2 11 look)) (Claim 3 11 look)) (Claim 1 11 move)
+
+-- 1 waits for 2, and 3 for both
+abbrev pub two_wait_run : Run
+two_wait_run = next (next (one_waits_run Continuous) (Open 3 5)) (Claim 3 11 look)
+
 -- where recalling is broken
 pub record RecallsRight : Type 0 where
   -- a claim that only waits may not recall the claimant
@@ -152,11 +162,15 @@ pub record RecallsRight : Type 0 where
   pub too_early : MayNotRecall (one_waits_run Periodic) (Claim 2 10 move) (2 ∷ [])
   -- and so does every other call to it
   pub opens : MayNotRecall (two_stations_run Periodic) (Open 3 5) (2 ∷ [])
+  pub closes : MayNotRecall (next (two_stations_run Periodic) (Open 3 5)) (Close 3) (2 ∷ [])
+  pub withdraws : MayNotRecall (two_stations_run Periodic) (Withdraw 1) (2 ∷ [])
+  pub acknowledges : MayNotRecall (two_stations_run Periodic) (Acknowledge 3) (2 ∷ [])
   -- a claim that is covered is not entered, and recalls nobody
   pub covered : MayNotRecall (one_waits_run Continuous) (Claim 2 11 look) (2 ∷ [])
-  -- who is on no cycle may not be recalled, though a cycle stands and it is the newest
-  pub off_cycle :
-      MayNotRecall (next (one_waits_run Continuous) (Open 3 5)) (Claim 2 10 move) (3 ∷ [])
+  -- the newest may not be recalled where it runs, and one that is on the cycle waits for it
+  pub before_cycle : MayNotRecall looked_at_run (Claim 2 10 move) (3 ∷ [])
+  -- nor where it waits for those on the cycle, and is not on it
+  pub behind_cycle : MayNotRecall two_wait_run (Claim 2 10 move) (3 ∷ [])
   -- nor may the older of two that are on one
   pub older : MayNotRecall (one_waits_run Continuous) (Claim 2 10 move) (1 ∷ [])
   -- nor may the older one after the newer one, since the cycle is gone
