@@ -2,7 +2,7 @@
 // every recall order that keeps its laws.
 ghost use Rattle.model.specs.Theorems.{LimitsRight, LawOverRuns, InvariantKept, CycleTestExact};
 ghost use Rattle.model.specs.Theorems.{StepsLeadToOpen, FirstExact, ReportFits, RefusedWhenFull};
-ghost use Rattle.model.specs.Theorems.{NoNewStep, ExamplesRight};
+ghost use Rattle.model.specs.Theorems.{CoveredExact, ChangesExact, NoNewStep, ExamplesRight};
 ghost use Rattle.model.specs.LawExamples.{LawExamplesRight};
 
 /// Exclusion, progress and recall hold of every run of calls.
@@ -31,14 +31,26 @@ pub fn report_fits()
     ensures { ReportFits }
 {}
 
-/// A claim is refused for want of room only where 512 claims stand.
+/// A claim is refused for want of room exactly where nothing else refuses it, 512 claims stand and
+/// none covers it.
 pub fn refused_when_full()
     ensures { RefusedWhenFull }
+{}
+
+/// A claim is answered covered exactly where nothing but the room may refuse it and a claim covers
+/// it, however many claims stand.
+pub fn covered_is_exact()
+    ensures { CoveredExact }
 {}
 
 /// The limits are 64 dispatches, 1024 sections, 512 claims and a weight of 1000.
 pub fn limits_are_right()
     ensures { LimitsRight }
+{}
+
+/// What a call changes of the state follows from its answer and from whom it recalls.
+pub fn changes_are_exact()
+    ensures { ChangesExact }
 {}
 
 /// A claim that nothing blocks adds no step of waiting, so it closes no cycle.
