@@ -10,9 +10,9 @@ use Rattle.model.specs.Examples.{IsRight, full_book, examples}
 
 full_right : IsRight full_book
 unfolding step closure on_cycles recall_result_within recall_result
-full_right = (refl, (refl, (refl, tt)))
+full_right = (refl, (refl, (refl, (refl, tt))))
 
 pub all_right : AllByRecursion IsRight examples
 unfolding step closure on_cycles recall_result_within recall_result some_field each_field digits
 all_right =
-    (search, (search, (search, (search, (search, (search, (search, (search, (search, (search, (search, (search, (search, (search, (search, (search, (search, (search, (search, (search, (search, (search, (search, (search, (search, (search, (search, (search, (search, (search, (search, (search, (search, (search, (search, (search, (search, (search, (search, (search, (search, (search, (search, (search, (full_right, tt)))))))))))))))))))))))))))))))))))))))))))))
+    (search, (search, (search, (search, (search, (search, (search, (search, (search, (search, (search, (search, (search, (search, (search, (search, (search, (search, (search, (search, (search, (search, (search, (search, (search, (search, (search, (search, (search, (search, (search, (search, (search, (search, (search, (search, (search, (search, (search, (search, (search, (search, (search, (search, (full_right, (search, (search, tt)))))))))))))))))))))))))))))))))))))))))))))))

@@ -9,7 +9,7 @@ use Rattle.uses.specs.Spans.{spans}
 use Rattle.orders.specs.Orders.{newest, lightest, fewest, pair}
 use Rattle.model.specs.State.{State, new}
 use Rattle.model.specs.Recalling.{Order}
-use Rattle.model.specs.Calls.{ModelAnswer, claim_of, step, report_of, answer_ok, answer_granted, answer_covered, answer_waits, answer_recalled, answer_refused}
+use Rattle.model.specs.Calls.{ModelAnswer, claim_of, step, report, report_of, answer_ok, answer_granted, answer_covered, answer_waits, answer_recalled, answer_refused}
 use Rattle.model.specs.Report.{report_text}
 use Rattle.model.specs.Questions.{condition_asked, waited_for, holders}
 use Rattle.model.specs.declared.call.Call.{Call}
@@ -186,17 +186,21 @@ second_blocker =
     ∷ Claim 3 8 move ⇒ answer_granted ∷ Claim 3 7 move ⇒ answer_waits
     ∷ recalling (Claim 2 8 move ⇒ answer_granted) (3 at 7 ∷ []) ∷ [])
 
--- two cycles and a sweep, and what comes then
-abbrev pub two_cycles_and : List Line → Example
-two_cycles_and ls =
-    played Periodic two_uses newest
-    (Open 1 5 ⇒ answer_ok ∷ Open 2 5 ⇒ answer_ok
-    ∷ Open 3 5 ⇒ answer_ok ∷ Open 4 5 ⇒ answer_ok
+-- the calls up to two cycles, of 1 and 2 and of 3 and 4
+abbrev pub up_to_two_cycles : List Line
+up_to_two_cycles =
+    Open 1 5 ⇒ answer_ok ∷ Open 2 5 ⇒ answer_ok ∷ Open 3 5 ⇒ answer_ok ∷ Open 4 5 ⇒ answer_ok
     ∷ Claim 1 10 move ⇒ answer_granted ∷ Claim 2 11 move ⇒ answer_granted
     ∷ Claim 3 12 move ⇒ answer_granted ∷ Claim 4 13 move ⇒ answer_granted
     ∷ Claim 1 11 move ⇒ answer_waits ∷ Claim 2 10 move ⇒ answer_waits
-    ∷ Claim 3 13 move ⇒ answer_waits ∷ Claim 4 12 move ⇒ answer_waits
-    ∷ waking (recalling (Sweep ⇒ answer_ok) (4 at 12 ∷ 2 at 10 ∷ [])) (1 at 11 ∷ 3 at 13 ∷ [])
+    ∷ Claim 3 13 move ⇒ answer_waits ∷ Claim 4 12 move ⇒ answer_waits ∷ []
+
+-- a sweep then, and what comes after it
+abbrev pub two_cycles_and : List Line → Example
+two_cycles_and ls =
+    played Periodic two_uses newest
+    (up_to_two_cycles
+    ++ waking (recalling (Sweep ⇒ answer_ok) (4 at 12 ∷ 2 at 10 ∷ [])) (1 at 11 ∷ 3 at 13 ∷ [])
     ∷ ls)
 
 -- after each recall one looks again: with 4 gone, 3 is on no cycle, and 2 is the next
@@ -532,17 +536,38 @@ with_looks count = record {
   detection = Continuous;
 }
 
--- the answer where 1 looks at so many sections and claims to look at this one
-abbrev pub look_answer : ℕ → ℕ → ModelAnswer
-look_answer count section = (step two_uses newest (with_looks count) (Claim 1 section look)).answer
+-- the answer where 1 looks at so many sections and the dispatch claims to look at this one
+abbrev pub look_answer : ℕ → ℕ → ℕ → ModelAnswer
+look_answer count d section =
+    (step two_uses newest (with_looks count) (Claim d section look)).answer
 
--- where 512 claims stand, a claim that is covered is answered so, and any other is refused; where
--- 511 stand there is room for one
+-- where 512 claims stand, a claim that is covered is answered so, and any other is refused, by 9
+-- where nothing else refuses it; where 511 stand there is room for one
 abbrev pub full_book : Example
 full_book =
     answered
-    ((look_answer 512 3, answer_covered) ∷ (look_answer 512 600, answer_refused 9)
-    ∷ (look_answer 511 600, answer_granted) ∷ [])
+    ((look_answer 512 1 3, answer_covered) ∷ (look_answer 512 1 600, answer_refused 9)
+    ∷ (look_answer 512 2 600, answer_refused 7) ∷ (look_answer 511 1 600, answer_granted) ∷ [])
+
+-- the state in which the two cycles stand
+abbrev pub two_cycles_stand : State
+two_cycles_stand = after two_uses newest (new Periodic) (map (λ l. l.made) up_to_two_cycles)
+
+-- the report of a call names whom it recalls, and then whom it wakes
+abbrev pub report_of_a_sweep : Example
+report_of_a_sweep =
+    reported
+    ((
+      report (step two_uses newest two_cycles_stand Sweep),
+      report_of (4 at 12 ∷ 2 at 10 ∷ []) (1 at 11 ∷ 3 at 13 ∷ []),
+    ) ∷ [])
+
+-- which codes are uses
+abbrev pub known_uses : Example
+known_uses =
+    asked
+    ((two_uses.known 0, true) ∷ (two_uses.known 1, true) ∷ (two_uses.known 2, false)
+    ∷ (five_uses.known 0, true) ∷ (five_uses.known 4, true) ∷ (five_uses.known 5, false) ∷ [])
 
 -- the table of examples
 abbrev pub examples : List Example
@@ -557,4 +582,4 @@ examples =
     ∷ newest_of_three ∷ lightest_of_the_heavy ∷ fewest_of_many ∷ last_of_the_tied
     ∷ behind_a_cycle ∷ recalled_after_another ∷ closed_and_again ∷ holding_in_the_queue
     ∷ span_codes ∷ conflicts_at_the_end ∷ covers_at_the_end ∷ printed_report
-    ∷ full_book ∷ []
+    ∷ full_book ∷ report_of_a_sweep ∷ known_uses ∷ []
