@@ -30,20 +30,22 @@ abbrev pub acknowledges : ModelAnswer → Call → ℕ → Bool
 acknowledges answer_ok (call.Acknowledge e) d = d == e
 acknowledges _ _ d = false
 
+-- the call takes the dispatch out: it ends it, or recalls it
+abbrev pub takes_out : Call → Outcome → ℕ → Bool
+takes_out c x d = ends x.answer c d || is_named d x.recalls
+
 -- the outcome of a call has these changes of the state before it, and no others
 pub record IsExactChange (s : State) (c : Call) (x : Outcome) : Type 0 where
   -- the detection stays
   pub detection : x.state.detection ≡ s.detection
-  -- the open list loses whom the call ends or recalls; the others keep number, weight and order
+  -- the open list loses whom the call takes out; the others keep number, weight and order
   pub opened :
       x.state.opened
-      ≡ filter (λ e. not (ends x.answer c e.dispatch || is_named e.dispatch x.recalls)) s.opened
-      ++ new_entries x.answer c
-  -- the claim list loses all their claims; the others keep their order
+      ≡ filter (λ e. not (takes_out c x e.dispatch)) s.opened ++ new_entries x.answer c
+  -- the claim list loses all their claims; the others stay as they are, in order
   pub claims :
       x.state.claims
-      ≡ filter (λ b. not (ends x.answer c b.dispatch || is_named b.dispatch x.recalls))
-      (s.claims ++ new_claims x.answer c)
+      ≡ filter (λ b. not (takes_out c x b.dispatch)) (s.claims ++ new_claims x.answer c)
   -- the recalled set gets whom the call recalls, and loses whom it acknowledges
   pub recalled :
       (d : ℕ)
