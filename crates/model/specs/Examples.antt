@@ -1,13 +1,14 @@
 -- Worked examples, which can be checked by hand: runs with every answer and report, what a book
 -- answers after a run, a report in its places, and charts of the tables of uses.
-use Rattle.std.specs.Prelude.{◌≡◌, ℕ, Bool, true, false, if◌then◌else◌, ◌||◌, List, [], ◌∷◌, ◌++◌, map, replicate, codes, Some, None, Ok, Err, Option, Result, nat_le, nat_lt}
+use Rattle.std.specs.Prelude.{◌≡◌, ℕ, Bool, true, false, if◌then◌else◌, ◌||◌, List, [], ◌∷◌, ◌++◌, map, replicate, codes, Some, None, Ok, Err, Option, Result, ◌==◌, nat_le, nat_lt}
 use Rattle.std.specs.List.{AllByRecursion, range_with_len}
 use Rattle.uses.specs.Relations.{Relations}
 use Rattle.uses.specs.TwoUses.{two_uses}
 use Rattle.uses.specs.FiveUses.{five_uses, IS, IX, S, SIX, X}
 use Rattle.uses.specs.Spans.{spans}
 use Rattle.orders.specs.Orders.{newest, lightest, fewest, pair}
-use Rattle.model.specs.State.{State, new}
+use Rattle.model.specs.Claims.{waiting_claims, held_count, claim_waits}
+use Rattle.model.specs.State.{State, new, is_free}
 use Rattle.model.specs.Recalling.{Order}
 use Rattle.model.specs.Calls.{ModelAnswer, claim_of, step, report, report_of, answer_ok, answer_granted, answer_covered, answer_waits, answer_recalled, answer_refused}
 use Rattle.model.specs.Report.{report_text}
@@ -569,6 +570,25 @@ known_uses =
     ((two_uses.known 0, true) ∷ (two_uses.known 1, true) ∷ (two_uses.known 2, false)
     ∷ (five_uses.known 0, true) ∷ (five_uses.known 4, true) ∷ (five_uses.known 5, false) ∷ [])
 
+-- which claims of the queue wait and which are held
+abbrev pub claims_in_the_queue : Example
+claims_in_the_queue =
+    asked
+    ((claim_waits two_uses queue.claims 2 7 move, true)
+    ∷ (claim_waits two_uses queue.claims 3 7 look, true)
+    ∷ (claim_waits two_uses queue.claims 1 7 look, false)
+    ∷ (claim_waits two_uses queue.claims 2 7 look, false)
+    ∷ (claim_waits two_uses queue.claims 2 8 move, false)
+    ∷ (waiting_claims two_uses queue.claims 2 == 1, true)
+    ∷ (waiting_claims two_uses queue.claims 5 == 0, true)
+    ∷ (held_count two_uses queue.claims 2 == 0, true)
+    ∷ (held_count two_uses queue.claims 5 == 2, true) ∷ [])
+
+-- who is free beside the queue: neither 1, which is open, nor 4, which was recalled
+abbrev pub free_beside_the_queue : Example
+free_beside_the_queue =
+    asked ((is_free queue 6, true) ∷ (is_free queue 1, false) ∷ (is_free queue 4, false) ∷ [])
+
 -- the table of examples
 abbrev pub examples : List Example
 examples =
@@ -582,4 +602,5 @@ examples =
     ∷ newest_of_three ∷ lightest_of_the_heavy ∷ fewest_of_many ∷ last_of_the_tied
     ∷ behind_a_cycle ∷ recalled_after_another ∷ closed_and_again ∷ holding_in_the_queue
     ∷ span_codes ∷ conflicts_at_the_end ∷ covers_at_the_end ∷ printed_report
-    ∷ full_book ∷ report_of_a_sweep ∷ known_uses ∷ []
+    ∷ full_book ∷ report_of_a_sweep ∷ known_uses ∷ claims_in_the_queue
+    ∷ free_beside_the_queue ∷ []
