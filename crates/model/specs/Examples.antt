@@ -589,6 +589,27 @@ abbrev pub free_beside_the_queue : Example
 free_beside_the_queue =
     asked ((is_free queue 6, true) ∷ (is_free queue 1, false) ∷ (is_free queue 4, false) ∷ [])
 
+-- a call leaves alone what others have: 1 and 3 keep their claims, and 2 stays recalled
+abbrev pub others_stay : Example
+others_stay =
+    two_cycles_and
+    (Claim 1 10 look ⇒ answer_covered ∷ Claim 1 10 look ⇒ answer_covered
+    ∷ Acknowledge 4 ⇒ answer_ok ∷ Claim 1 10 look ⇒ answer_covered
+    ∷ Claim 3 12 look ⇒ answer_covered ∷ Withdraw 3 ⇒ answer_ok ∷ Open 2 5 ⇒ answer_refused 5
+    ∷ Close 1 ⇒ answer_ok ∷ Open 2 5 ⇒ answer_refused 5 ∷ [])
+
+-- weights stay, and the detection, when others are closed and recalled, and after a sweep
+abbrev pub weights_stay : Example
+weights_stay =
+    played Continuous two_uses lightest
+    (Open 4 1 ⇒ answer_ok ∷ Open 1 3 ⇒ answer_ok ∷ Open 3 5 ⇒ answer_ok ∷ Open 2 9 ⇒ answer_ok
+    ∷ Close 4 ⇒ answer_ok ∷ Sweep ⇒ answer_ok
+    ∷ Claim 1 10 move ⇒ answer_granted ∷ Claim 2 11 move ⇒ answer_granted
+    ∷ Claim 3 12 move ⇒ answer_granted ∷ Claim 1 11 move ⇒ answer_waits
+    ∷ recalling (Claim 2 10 move ⇒ answer_granted) (1 at 11 ∷ [])
+    ∷ Claim 3 11 move ⇒ answer_waits
+    ∷ recalling (Claim 2 12 move ⇒ answer_granted) (3 at 11 ∷ []) ∷ [])
+
 -- the table of examples
 abbrev pub examples : List Example
 examples =
@@ -603,4 +624,4 @@ examples =
     ∷ behind_a_cycle ∷ recalled_after_another ∷ closed_and_again ∷ holding_in_the_queue
     ∷ span_codes ∷ conflicts_at_the_end ∷ covers_at_the_end ∷ printed_report
     ∷ full_book ∷ report_of_a_sweep ∷ known_uses ∷ claims_in_the_queue
-    ∷ free_beside_the_queue ∷ []
+    ∷ free_beside_the_queue ∷ others_stay ∷ weights_stay ∷ []
