@@ -610,6 +610,41 @@ weights_stay =
     ∷ Claim 3 11 move ⇒ answer_waits
     ∷ recalling (Claim 2 12 move ⇒ answer_granted) (3 at 11 ∷ []) ∷ [])
 
+-- every blocker counts: 3 waits behind both lookers, and the cycle goes through the first
+abbrev pub first_blocker : Example
+first_blocker =
+    played Continuous two_uses newest
+    (Open 1 5 ⇒ answer_ok ∷ Open 2 5 ⇒ answer_ok ∷ Open 3 5 ⇒ answer_ok
+    ∷ Claim 1 7 look ⇒ answer_granted ∷ Claim 2 7 look ⇒ answer_granted
+    ∷ Claim 3 8 move ⇒ answer_granted ∷ Claim 3 7 move ⇒ answer_waits
+    ∷ recalling (Claim 1 8 move ⇒ answer_granted) (3 at 7 ∷ []) ∷ [])
+
+-- a claim closes three cycles, and recalls the three that are newer
+abbrev pub three_recalls : Example
+three_recalls =
+    played Continuous two_uses newest
+    (Open 1 5 ⇒ answer_ok ∷ Open 2 5 ⇒ answer_ok ∷ Open 3 5 ⇒ answer_ok ∷ Open 4 5 ⇒ answer_ok
+    ∷ Claim 1 10 move ⇒ answer_granted ∷ Claim 2 7 look ⇒ answer_granted
+    ∷ Claim 3 7 look ⇒ answer_granted ∷ Claim 4 7 look ⇒ answer_granted
+    ∷ Claim 2 10 look ⇒ answer_waits ∷ Claim 3 10 look ⇒ answer_waits
+    ∷ Claim 4 10 look ⇒ answer_waits
+    ∷ recalling (Claim 1 7 move ⇒ answer_granted) (4 at 10 ∷ 3 at 10 ∷ 2 at 10 ∷ []) ∷ [])
+
+-- 63 moves on section 1023, and 62 waits to look there
+abbrev pub last_numbers : State
+last_numbers =
+    after two_uses newest (new Continuous)
+    (Open 63 5 ∷ Open 62 5 ∷ Claim 63 1023 move ∷ Claim 62 1023 look ∷ [])
+
+-- the questions on the last numbers are answered
+abbrev pub asked_at_the_limits : Example
+asked_at_the_limits =
+    asked
+    ((holders two_uses last_numbers 1023 63, true)
+    ∷ (holders two_uses last_numbers 1023 62, false)
+    ∷ (waited_for two_uses last_numbers 62 63, true)
+    ∷ (waited_for two_uses last_numbers 63 62, false) ∷ [])
+
 -- the table of examples
 abbrev pub examples : List Example
 examples =
@@ -624,4 +659,5 @@ examples =
     ∷ behind_a_cycle ∷ recalled_after_another ∷ closed_and_again ∷ holding_in_the_queue
     ∷ span_codes ∷ conflicts_at_the_end ∷ covers_at_the_end ∷ printed_report
     ∷ full_book ∷ report_of_a_sweep ∷ known_uses ∷ claims_in_the_queue
-    ∷ free_beside_the_queue ∷ others_stay ∷ weights_stay ∷ []
+    ∷ free_beside_the_queue ∷ others_stay ∷ weights_stay
+    ∷ first_blocker ∷ three_recalls ∷ asked_at_the_limits ∷ []
