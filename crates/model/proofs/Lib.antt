@@ -8,6 +8,7 @@ pub mod Victims
 pub mod Recalls
 pub mod Keeps
 pub mod Steps
+pub mod ChangesHold
 pub mod Grants
 pub mod LawHolds
 pub mod Exact

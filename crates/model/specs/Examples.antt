@@ -1,15 +1,17 @@
 -- Worked examples, which can be checked by hand: runs with every answer and report, what a book
 -- answers after a run, a report in its places, and charts of the tables of uses.
-use Rattle.std.specs.Prelude.{◌≡◌, ℕ, Bool, true, false, if◌then◌else◌, ◌||◌, List, [], ◌∷◌, map, replicate, codes, Some, None, Ok, Err, Option, Result, nat_le, nat_lt}
-use Rattle.std.specs.List.{AllByRecursion}
+use Rattle.std.specs.Prelude.{◌≡◌, ℕ, Bool, true, false, if◌then◌else◌, ◌||◌, List, [], ◌∷◌, ◌++◌, map, replicate, codes, Some, None, Ok, Err, Option, Result, ◌==◌, nat_le, nat_lt}
+use Rattle.std.specs.List.{AllByRecursion, range_with_len}
 use Rattle.uses.specs.Relations.{Relations}
 use Rattle.uses.specs.TwoUses.{two_uses}
 use Rattle.uses.specs.FiveUses.{five_uses, IS, IX, S, SIX, X}
 use Rattle.uses.specs.Spans.{spans}
 use Rattle.orders.specs.Orders.{newest, lightest, fewest, pair}
-use Rattle.model.specs.State.{State, new}
+use Rattle.model.specs.Claims.{waiting_claims, held_count, claim_waits}
+use Rattle.model.specs.State.{State, new, is_free}
 use Rattle.model.specs.Recalling.{Order}
-use Rattle.model.specs.Calls.{ModelAnswer, step, report_of, answer_ok, answer_granted, answer_covered, answer_waits, answer_recalled, answer_refused}
+use Rattle.model.specs.Calls.{ModelAnswer, claim_of, step, report, report_of, answer_ok, answer_granted, answer_covered, answer_waits, answer_recalled, answer_refused}
+use Rattle.model.specs.Report.{report_text}
 use Rattle.model.specs.Questions.{condition_asked, waited_for, holders}
 use Rattle.model.specs.declared.call.Call.{Call}
 use Rattle.model.specs.declared.call.Call.TheVariants.{Open, Claim, Close, Withdraw, Acknowledge, Sweep}
@@ -35,12 +37,16 @@ Asked = Result (Condition × Option ℕ) ℕ
 pub data Example : Type 0 where
   -- a run from a new book, line by line
   played : Detection → Relations → Order → List Line → Example
+  -- answers to calls
+  answered : List (ModelAnswer × ModelAnswer) → Example
   -- how dispatches stand
   stood : List (Asked × Asked) → Example
   -- yes or no
   asked : List (Bool × Bool) → Example
   -- reports
   reported : List (Report × Report) → Example
+  -- printed bytes
+  printed : List (List ℕ × List ℕ) → Example
   -- a relation of uses, and its chart
   charted : (ℕ → ℕ → Bool) → List ℕ → List (List ℕ) → Example
 
@@ -67,9 +73,11 @@ chart r uses = map (λ a. map (λ b. if r a b then 120 else 46) uses) uses
 -- the example is right
 abbrev pub IsRight : Example → Type 0
 IsRight (played detection u o ls) = Gives u o (new detection) ls
+IsRight (answered answers) = AllByRecursion (λ a. a.0 ≡ a.1) answers
 IsRight (stood answers) = AllByRecursion (λ a. a.0 ≡ a.1) answers
 IsRight (asked answers) = AllByRecursion (λ a. a.0 ≡ a.1) answers
 IsRight (reported reports) = AllByRecursion (λ r. r.0 ≡ r.1) reports
+IsRight (printed texts) = AllByRecursion (λ t. t.0 ≡ t.1) texts
 IsRight (charted r uses rows) = chart r uses ≡ rows
 
 infixl 70 ◌at◌ ◌⇒◌
@@ -179,18 +187,26 @@ second_blocker =
     ∷ Claim 3 8 move ⇒ answer_granted ∷ Claim 3 7 move ⇒ answer_waits
     ∷ recalling (Claim 2 8 move ⇒ answer_granted) (3 at 7 ∷ []) ∷ [])
 
--- after each recall one looks again: with 4 gone, 3 is on no cycle, and 2 is the next
-abbrev pub two_cycles : Example
-two_cycles =
-    played Periodic two_uses newest
-    (Open 1 5 ⇒ answer_ok ∷ Open 2 5 ⇒ answer_ok
-    ∷ Open 3 5 ⇒ answer_ok ∷ Open 4 5 ⇒ answer_ok
+-- the calls up to two cycles, of 1 and 2 and of 3 and 4
+abbrev pub up_to_two_cycles : List Line
+up_to_two_cycles =
+    Open 1 5 ⇒ answer_ok ∷ Open 2 5 ⇒ answer_ok ∷ Open 3 5 ⇒ answer_ok ∷ Open 4 5 ⇒ answer_ok
     ∷ Claim 1 10 move ⇒ answer_granted ∷ Claim 2 11 move ⇒ answer_granted
     ∷ Claim 3 12 move ⇒ answer_granted ∷ Claim 4 13 move ⇒ answer_granted
     ∷ Claim 1 11 move ⇒ answer_waits ∷ Claim 2 10 move ⇒ answer_waits
-    ∷ Claim 3 13 move ⇒ answer_waits ∷ Claim 4 12 move ⇒ answer_waits
-    ∷ waking (recalling (Sweep ⇒ answer_ok) (4 at 12 ∷ 2 at 10 ∷ [])) (1 at 11 ∷ 3 at 13 ∷ [])
-    ∷ [])
+    ∷ Claim 3 13 move ⇒ answer_waits ∷ Claim 4 12 move ⇒ answer_waits ∷ []
+
+-- a sweep then, and what comes after it
+abbrev pub two_cycles_and : List Line → Example
+two_cycles_and ls =
+    played Periodic two_uses newest
+    (up_to_two_cycles
+    ++ waking (recalling (Sweep ⇒ answer_ok) (4 at 12 ∷ 2 at 10 ∷ [])) (1 at 11 ∷ 3 at 13 ∷ [])
+    ∷ ls)
+
+-- after each recall one looks again: with 4 gone, 3 is on no cycle, and 2 is the next
+abbrev pub two_cycles : Example
+two_cycles = two_cycles_and []
 
 -- a wrong section is refused before an unknown use
 abbrev pub order_of_refusals : Example
@@ -277,8 +293,8 @@ limits =
     ∷ Claim 63 1023 2 ⇒ answer_refused 3 ∷ Claim 63 1023 move ⇒ answer_granted
     ∷ Close 62 ⇒ answer_refused 7 ∷ [])
 
--- 1 looks, 2 wants to move there and waits, 3 looks behind it and waits; 4 was recalled after 5 and
--- it claimed each other's sections
+-- 1 looks, 2 wants to move there and waits, 3 looks behind it and waits; 4 was recalled after 5
+-- and it claimed each other's sections
 abbrev pub queue : State
 queue =
     after two_uses newest (new Continuous)
@@ -357,6 +373,278 @@ span_covers =
     charted spans.cover some_spans
     (codes "xx.." ∷ codes ".x.." ∷ codes "..x." ∷ codes "xxxx" ∷ [])
 
+-- who was recalled can do nothing before it is acknowledged; its numbers are checked before that
+abbrev pub refused_while_recalled : Example
+refused_while_recalled =
+    double_upgrade_and
+    (Claim 2 1024 move ⇒ answer_refused 2 ∷ Claim 2 8 9 ⇒ answer_refused 3
+    ∷ Claim 2 8 look ⇒ answer_refused 5 ∷ Close 2 ⇒ answer_refused 5
+    ∷ Withdraw 2 ⇒ answer_refused 5 ∷ Acknowledge 2 ⇒ answer_ok ∷ [])
+
+-- the numbers are checked before how the dispatch stands: 2 waits, 3 is free, 64 is too high; and
+-- who waits is refused also what it holds already
+abbrev pub order_of_checks : Example
+order_of_checks =
+    played Continuous two_uses newest
+    (Open 1 5 ⇒ answer_ok ∷ Open 2 5 ⇒ answer_ok
+    ∷ Claim 1 10 move ⇒ answer_granted ∷ Claim 2 11 move ⇒ answer_granted
+    ∷ Claim 2 10 look ⇒ answer_waits
+    ∷ Claim 2 1024 look ⇒ answer_refused 2 ∷ Claim 2 11 9 ⇒ answer_refused 3
+    ∷ Claim 2 11 look ⇒ answer_refused 8
+    ∷ Claim 3 1024 look ⇒ answer_refused 2 ∷ Claim 3 11 9 ⇒ answer_refused 3
+    ∷ Claim 3 11 look ⇒ answer_refused 7
+    ∷ Claim 64 1024 9 ⇒ answer_refused 1 ∷ Close 64 ⇒ answer_refused 1
+    ∷ Withdraw 64 ⇒ answer_refused 1 ∷ Acknowledge 64 ⇒ answer_refused 1 ∷ [])
+
+-- of two recalled one is acknowledged, and the other stays recalled; who is open cannot be
+abbrev pub one_acknowledged : Example
+one_acknowledged =
+    two_cycles_and
+    (Acknowledge 1 ⇒ answer_refused 10 ∷ Acknowledge 4 ⇒ answer_ok
+    ∷ Open 2 5 ⇒ answer_refused 5 ∷ Open 4 5 ⇒ answer_ok
+    ∷ Acknowledge 2 ⇒ answer_ok ∷ Open 2 5 ⇒ answer_ok ∷ [])
+
+-- the woken are named as they were opened, not by number and not as they claimed
+abbrev pub woken_as_opened : Example
+woken_as_opened =
+    played Continuous two_uses newest
+    (Open 1 5 ⇒ answer_ok ∷ Open 3 5 ⇒ answer_ok
+    ∷ Open 4 5 ⇒ answer_ok ∷ Open 2 5 ⇒ answer_ok
+    ∷ Claim 1 7 move ⇒ answer_granted ∷ Claim 1 8 move ⇒ answer_granted
+    ∷ Claim 4 8 look ⇒ answer_waits ∷ Claim 2 7 look ⇒ answer_waits
+    ∷ Claim 3 7 look ⇒ answer_waits
+    ∷ waking (Close 1 ⇒ answer_ok) (3 at 7 ∷ 4 at 8 ∷ 2 at 7 ∷ []) ∷ [])
+
+-- the first calls of a cycle of 3, 1 and 2, opened in this order with these weights; some further
+-- claims come before those on the cycle
+abbrev pub cycle_and : ℕ → ℕ → ℕ → List Call → List Line → List Line
+cycle_and a b c further ls =
+    Open 3 a ⇒ answer_ok ∷ Open 1 b ⇒ answer_ok ∷ Open 2 c ⇒ answer_ok
+    ∷ map (λ claim. claim ⇒ answer_granted) further
+    ++ Claim 3 10 move ⇒ answer_granted ∷ Claim 1 11 move ⇒ answer_granted
+    ∷ Claim 2 12 move ⇒ answer_granted ∷ Claim 3 11 move ⇒ answer_waits
+    ∷ Claim 1 12 move ⇒ answer_waits ∷ ls
+
+-- the newest is recalled, which is neither the lightest nor the heaviest, and holds neither the
+-- fewest claims nor the most
+abbrev pub newest_of_three : Example
+newest_of_three =
+    played Continuous two_uses newest
+    (cycle_and 3 9 5 (Claim 1 20 look ∷ Claim 1 21 look ∷ Claim 2 22 look ∷ [])
+    (waking (recalling (Claim 2 10 move ⇒ answer_recalled) (2 at 10 ∷ [])) (1 at 12 ∷ []) ∷ []))
+
+-- the lightest is recalled, also where weights do not fit a byte
+abbrev pub lightest_of_the_heavy : Example
+lightest_of_the_heavy =
+    played Continuous two_uses lightest
+    (cycle_and 600 400 1000 (Claim 1 20 look ∷ Claim 2 21 look ∷ Claim 2 22 look ∷ [])
+    (waking (recalling (Claim 2 10 move ⇒ answer_waits) (1 at 12 ∷ [])) (3 at 11 ∷ []) ∷ []))
+
+-- who holds the fewest claims is recalled; two claims on one section count as two
+abbrev pub fewest_of_many : Example
+fewest_of_many =
+    played Continuous two_uses fewest
+    (cycle_and 3 5 9
+    (Claim 3 20 look ∷ Claim 3 21 look ∷ Claim 3 22 look ∷ Claim 1 23 look
+    ∷ Claim 2 12 look ∷ Claim 2 24 look ∷ [])
+    (waking (recalling (Claim 2 10 move ⇒ answer_waits) (1 at 12 ∷ [])) (3 at 11 ∷ []) ∷ []))
+
+-- where the order ties, who was opened last is recalled
+abbrev pub last_of_the_tied : Example
+last_of_the_tied =
+    played Continuous two_uses lightest
+    (cycle_and 5 5 5 []
+    (waking (recalling (Claim 2 10 move ⇒ answer_recalled) (2 at 10 ∷ [])) (1 at 12 ∷ []) ∷ []))
+
+-- who waits for a cycle and is not on it is not recalled: 3 waits for 1
+abbrev pub behind_a_cycle : Example
+behind_a_cycle =
+    played Continuous two_uses newest
+    (Open 1 5 ⇒ answer_ok ∷ Open 2 5 ⇒ answer_ok ∷ Open 3 5 ⇒ answer_ok
+    ∷ Claim 1 10 move ⇒ answer_granted ∷ Claim 1 12 move ⇒ answer_granted
+    ∷ Claim 2 11 move ⇒ answer_granted ∷ Claim 3 12 move ⇒ answer_waits
+    ∷ Claim 1 11 move ⇒ answer_waits
+    ∷ waking (recalling (Claim 2 10 move ⇒ answer_recalled) (2 at 10 ∷ [])) (1 at 11 ∷ []) ∷ [])
+
+-- a claim closes two cycles, and the claimant is recalled after another
+abbrev pub recalled_after_another : Example
+recalled_after_another =
+    played Continuous two_uses newest
+    (Open 1 5 ⇒ answer_ok ∷ Open 2 5 ⇒ answer_ok ∷ Open 3 5 ⇒ answer_ok
+    ∷ Claim 1 7 look ⇒ answer_granted ∷ Claim 3 7 look ⇒ answer_granted
+    ∷ Claim 2 10 move ⇒ answer_granted ∷ Claim 1 10 move ⇒ answer_waits
+    ∷ Claim 3 10 move ⇒ answer_waits
+    ∷ waking (recalling (Claim 2 7 move ⇒ answer_recalled) (3 at 10 ∷ 2 at 7 ∷ [])) (1 at 10 ∷ [])
+    ∷ [])
+
+-- who closed is free: it holds nothing, need not be acknowledged, and may be opened again
+abbrev pub closed_and_again : Example
+closed_and_again =
+    played Continuous two_uses newest
+    (Open 1 5 ⇒ answer_ok ∷ Claim 1 10 move ⇒ answer_granted ∷ Close 1 ⇒ answer_ok
+    ∷ Close 1 ⇒ answer_refused 7 ∷ Claim 1 10 move ⇒ answer_refused 7
+    ∷ Acknowledge 1 ⇒ answer_refused 10 ∷ Open 1 5 ⇒ answer_ok
+    ∷ Claim 1 10 move ⇒ answer_granted ∷ [])
+
+-- who holds which section in the queue, and who waits for nobody there
+abbrev pub holding_in_the_queue : Example
+holding_in_the_queue =
+    asked
+    ((holders two_uses queue 7 5, false) ∷ (holders two_uses queue 8 1, false)
+    ∷ (holders two_uses queue 9 5, true) ∷ (holders two_uses queue 9 4, false)
+    ∷ (waited_for two_uses queue 2 3, false) ∷ (waited_for two_uses queue 2 5, false)
+    ∷ (waited_for two_uses queue 5 4, false) ∷ [])
+
+-- up 0 to 64, up 0 to 255 and works 254 to 255 are known; a code with direction 0 or 4, or of a
+-- span that ends before it begins, is unknown
+abbrev pub span_codes : Example
+span_codes =
+    asked
+    ((spans.known 65600, true) ∷ (spans.known 65791, true) ∷ (spans.known 261887, true)
+    ∷ (spans.known 5, false) ∷ (spans.known 262149, false) ∷ (spans.known 66816, false) ∷ [])
+
+-- the codes of up 0 to 255, up 0 to 254, up 254 to 255 and down 254 to 255
+abbrev pub spans_at_the_end : List ℕ
+spans_at_the_end = 65791 ∷ 65790 ∷ 130815 ∷ 196351 ∷ []
+
+-- which of these spans conflict
+abbrev pub conflicts_at_the_end : Example
+conflicts_at_the_end =
+    charted spans.conflict spans_at_the_end
+    (codes "...x" ∷ codes "...." ∷ codes "...x" ∷ codes "x.x." ∷ [])
+
+-- which of these spans covers which
+abbrev pub covers_at_the_end : Example
+covers_at_the_end =
+    charted spans.cover spans_at_the_end
+    (codes "xxx." ∷ codes ".x.." ∷ codes "..x." ∷ codes "...x" ∷ [])
+
+-- the text of a report names the recalled, and then the woken
+abbrev pub printed_report : Example
+printed_report =
+    printed
+    ((
+      report_text (report_of (4 at 12 ∷ 2 at 10 ∷ []) (1 at 11 ∷ [])),
+      codes "recall 4 12\nrecall 2 10\nwake 1 11\n",
+    ) ∷ [])
+
+-- dispatch 1 looks at so many sections, from 0 on
+abbrev pub with_looks : ℕ → State
+with_looks count = record {
+  opened = record { dispatch = 1; weight = 5 } ∷ [];
+  recalled = λ d. false;
+  claims = map (λ section. claim_of 1 section look) (range_with_len 0 count);
+  detection = Continuous;
+}
+
+-- the answer where 1 looks at so many sections and the dispatch claims to look at this one
+abbrev pub look_answer : ℕ → ℕ → ℕ → ModelAnswer
+look_answer count d section =
+    (step two_uses newest (with_looks count) (Claim d section look)).answer
+
+-- where 512 claims stand, a claim that is covered is answered so, and any other is refused, by 9
+-- where nothing else refuses it; where 511 stand there is room for one
+abbrev pub full_book : Example
+full_book =
+    answered
+    ((look_answer 512 1 3, answer_covered) ∷ (look_answer 512 1 600, answer_refused 9)
+    ∷ (look_answer 512 2 600, answer_refused 7) ∷ (look_answer 511 1 600, answer_granted) ∷ [])
+
+-- the state in which the two cycles stand
+abbrev pub two_cycles_stand : State
+two_cycles_stand = after two_uses newest (new Periodic) (map (λ l. l.made) up_to_two_cycles)
+
+-- the report of a call names whom it recalls, and then whom it wakes
+abbrev pub report_of_a_sweep : Example
+report_of_a_sweep =
+    reported
+    ((
+      report (step two_uses newest two_cycles_stand Sweep),
+      report_of (4 at 12 ∷ 2 at 10 ∷ []) (1 at 11 ∷ 3 at 13 ∷ []),
+    ) ∷ [])
+
+-- which codes are uses
+abbrev pub known_uses : Example
+known_uses =
+    asked
+    ((two_uses.known 0, true) ∷ (two_uses.known 1, true) ∷ (two_uses.known 2, false)
+    ∷ (five_uses.known 0, true) ∷ (five_uses.known 4, true) ∷ (five_uses.known 5, false) ∷ [])
+
+-- which claims of the queue wait and which are held
+abbrev pub claims_in_the_queue : Example
+claims_in_the_queue =
+    asked
+    ((claim_waits two_uses queue.claims 2 7 move, true)
+    ∷ (claim_waits two_uses queue.claims 3 7 look, true)
+    ∷ (claim_waits two_uses queue.claims 1 7 look, false)
+    ∷ (claim_waits two_uses queue.claims 2 7 look, false)
+    ∷ (claim_waits two_uses queue.claims 2 8 move, false)
+    ∷ (waiting_claims two_uses queue.claims 2 == 1, true)
+    ∷ (waiting_claims two_uses queue.claims 5 == 0, true)
+    ∷ (held_count two_uses queue.claims 2 == 0, true)
+    ∷ (held_count two_uses queue.claims 5 == 2, true) ∷ [])
+
+-- who is free beside the queue: neither 1, which is open, nor 4, which was recalled
+abbrev pub free_beside_the_queue : Example
+free_beside_the_queue =
+    asked ((is_free queue 6, true) ∷ (is_free queue 1, false) ∷ (is_free queue 4, false) ∷ [])
+
+-- a call leaves alone what others have: 1 and 3 keep their claims, and 2 stays recalled
+abbrev pub others_stay : Example
+others_stay =
+    two_cycles_and
+    (Claim 1 10 look ⇒ answer_covered ∷ Claim 1 10 look ⇒ answer_covered
+    ∷ Acknowledge 4 ⇒ answer_ok ∷ Claim 1 10 look ⇒ answer_covered
+    ∷ Claim 3 12 look ⇒ answer_covered ∷ Withdraw 3 ⇒ answer_ok ∷ Open 2 5 ⇒ answer_refused 5
+    ∷ Close 1 ⇒ answer_ok ∷ Open 2 5 ⇒ answer_refused 5 ∷ [])
+
+-- weights stay, and the detection, when others are closed and recalled, and after a sweep
+abbrev pub weights_stay : Example
+weights_stay =
+    played Continuous two_uses lightest
+    (Open 4 1 ⇒ answer_ok ∷ Open 1 3 ⇒ answer_ok ∷ Open 3 5 ⇒ answer_ok ∷ Open 2 9 ⇒ answer_ok
+    ∷ Close 4 ⇒ answer_ok ∷ Sweep ⇒ answer_ok
+    ∷ Claim 1 10 move ⇒ answer_granted ∷ Claim 2 11 move ⇒ answer_granted
+    ∷ Claim 3 12 move ⇒ answer_granted ∷ Claim 1 11 move ⇒ answer_waits
+    ∷ recalling (Claim 2 10 move ⇒ answer_granted) (1 at 11 ∷ [])
+    ∷ Claim 3 11 move ⇒ answer_waits
+    ∷ recalling (Claim 2 12 move ⇒ answer_granted) (3 at 11 ∷ []) ∷ [])
+
+-- every blocker counts: 3 waits behind both lookers, and the cycle goes through the first
+abbrev pub first_blocker : Example
+first_blocker =
+    played Continuous two_uses newest
+    (Open 1 5 ⇒ answer_ok ∷ Open 2 5 ⇒ answer_ok ∷ Open 3 5 ⇒ answer_ok
+    ∷ Claim 1 7 look ⇒ answer_granted ∷ Claim 2 7 look ⇒ answer_granted
+    ∷ Claim 3 8 move ⇒ answer_granted ∷ Claim 3 7 move ⇒ answer_waits
+    ∷ recalling (Claim 1 8 move ⇒ answer_granted) (3 at 7 ∷ []) ∷ [])
+
+-- a claim closes three cycles, and recalls the three that are newer
+abbrev pub three_recalls : Example
+three_recalls =
+    played Continuous two_uses newest
+    (Open 1 5 ⇒ answer_ok ∷ Open 2 5 ⇒ answer_ok ∷ Open 3 5 ⇒ answer_ok ∷ Open 4 5 ⇒ answer_ok
+    ∷ Claim 1 10 move ⇒ answer_granted ∷ Claim 2 7 look ⇒ answer_granted
+    ∷ Claim 3 7 look ⇒ answer_granted ∷ Claim 4 7 look ⇒ answer_granted
+    ∷ Claim 2 10 look ⇒ answer_waits ∷ Claim 3 10 look ⇒ answer_waits
+    ∷ Claim 4 10 look ⇒ answer_waits
+    ∷ recalling (Claim 1 7 move ⇒ answer_granted) (4 at 10 ∷ 3 at 10 ∷ 2 at 10 ∷ []) ∷ [])
+
+-- 63 moves on section 1023, and 62 waits to look there
+abbrev pub last_numbers : State
+last_numbers =
+    after two_uses newest (new Continuous)
+    (Open 63 5 ∷ Open 62 5 ∷ Claim 63 1023 move ∷ Claim 62 1023 look ∷ [])
+
+-- the questions on the last numbers are answered
+abbrev pub asked_at_the_limits : Example
+asked_at_the_limits =
+    asked
+    ((holders two_uses last_numbers 1023 63, true)
+    ∷ (holders two_uses last_numbers 1023 62, false)
+    ∷ (waited_for two_uses last_numbers 62 63, true)
+    ∷ (waited_for two_uses last_numbers 63 62, false) ∷ [])
+
 -- the table of examples
 abbrev pub examples : List Example
 examples =
@@ -365,4 +653,11 @@ examples =
     ∷ order_of_refusals ∷ span_questions ∷ order_at_opening ∷ recalled_and_again
     ∷ held_claims_only ∷ fewest_of_three ∷ fewest_of_the_lightest ∷ withdrawn ∷ limits
     ∷ standing_in_the_queue ∷ waiting_in_the_queue ∷ full_report ∷ two_conflicts ∷ two_covers
-    ∷ five_conflicts ∷ five_covers ∷ span_conflicts ∷ span_covers ∷ []
+    ∷ five_conflicts ∷ five_covers ∷ span_conflicts ∷ span_covers
+    ∷ refused_while_recalled ∷ order_of_checks ∷ one_acknowledged ∷ woken_as_opened
+    ∷ newest_of_three ∷ lightest_of_the_heavy ∷ fewest_of_many ∷ last_of_the_tied
+    ∷ behind_a_cycle ∷ recalled_after_another ∷ closed_and_again ∷ holding_in_the_queue
+    ∷ span_codes ∷ conflicts_at_the_end ∷ covers_at_the_end ∷ printed_report
+    ∷ full_book ∷ report_of_a_sweep ∷ known_uses ∷ claims_in_the_queue
+    ∷ free_beside_the_queue ∷ others_stay ∷ weights_stay
+    ∷ first_blocker ∷ three_recalls ∷ asked_at_the_limits ∷ []

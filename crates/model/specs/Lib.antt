@@ -5,6 +5,7 @@ pub mod State
 pub mod Recalling
 pub mod Report
 pub mod Calls
+pub mod Changes
 pub mod Questions
 pub mod Runs
 pub mod Law

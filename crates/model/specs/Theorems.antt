@@ -1,13 +1,14 @@
 -- The theorems, each for every use table and every recall order that keeps its laws.
-use Rattle.std.specs.Prelude.{◌≡◌, ℕ, ◌+◌, ◌≤◌, ◌↔◌, Bool, false, List, [], ◌∷◌, ◌++◌, length, IsTrue, Some, filter}
+use Rattle.std.specs.Prelude.{◌≡◌, ℕ, ◌+◌, ◌≤◌, ◌↔◌, Bool, true, false, List, [], ◌∷◌, ◌++◌, length, IsTrue, Some, None, filter}
 use Rattle.std.specs.List.{AllByRecursion, list_any}
 use Rattle.uses.specs.Relations.{Relations, UseLaws}
 use Rattle.orders.specs.Laws.{OrderLaws}
 use Rattle.model.specs.Graph.{OnCycle, LeadsInto, on_cycle}
-use Rattle.model.specs.Claims.{blocks, dispatch_waits, waits_for}
+use Rattle.model.specs.Claims.{blocks, dispatch_waits, waits_for, is_covered}
 use Rattle.model.specs.State.{State, new, numbers}
 use Rattle.model.specs.Recalling.{Order, first}
-use Rattle.model.specs.Calls.{Outcome, checks, refusal, step, answer_refused}
+use Rattle.model.specs.Calls.{Outcome, checks, entry_checks, refusal, step, answer_covered, answer_refused}
+use Rattle.model.specs.Changes.{IsExactChange}
 use Rattle.model.specs.Invariant.{WellFormed, Invariant}
 use Rattle.model.specs.Firsts.{IsFirst}
 use Rattle.model.specs.Runs.{Run}
@@ -82,12 +83,23 @@ RefusedChangesNothing =
     (u : Relations) (o : Order) (s : State) (c : Call) (n : ℕ)
     → (step u o s c).answer ≡ answer_refused n → ChangesNothing s (step u o s c)
 
--- a claim is refused for want of room only where 512 claims stand
+-- a claim is refused for want of room exactly where it passes all other checks, 512 claims stand
+-- and none covers it
 abbrev pub RefusedWhenFull : Type 0
 RefusedWhenFull =
     (u : Relations) (o : Order) (s : State) → Invariant u s → (d section mode : ℕ)
-    → (step u o s (call.Claim d section mode)).answer ≡ answer_refused 9
-    → length s.claims ≡ CLAIMS
+    → (((step u o s (call.Claim d section mode)).answer ≡ answer_refused 9)
+    ↔ ((refusal (entry_checks u s d section mode) ≡ None)
+    × (length s.claims ≡ CLAIMS) × (is_covered u s.claims d section mode ≡ false)))
+
+-- a claim is answered covered exactly where it passes all checks but the last and some claim covers
+-- it, however many claims stand
+abbrev pub CoveredExact : Type 0
+CoveredExact =
+    (u : Relations) (o : Order) (s : State) (d section mode : ℕ)
+    → (((step u o s (call.Claim d section mode)).answer ≡ answer_covered)
+    ↔ ((refusal (entry_checks u s d section mode) ≡ None)
+    × (is_covered u s.claims d section mode ≡ true)))
 
 -- the limits that the definitions cite from the code are those of the rules
 pub record LimitsRight : Type 0 where
@@ -95,6 +107,11 @@ pub record LimitsRight : Type 0 where
   pub sections : SECTIONS ≡ 1024
   pub claims : CLAIMS ≡ 512
   pub heaviest : HEAVIEST ≡ 1000
+
+-- what a call changes follows from its answer and from whom it recalls
+abbrev pub ChangesExact : Type 0
+ChangesExact =
+    (u : Relations) (o : Order) (s : State) (c : Call) → IsExactChange s c (step u o s c)
 
 -- a claim that nothing blocks adds no step of waiting
 abbrev pub NoNewStep : Type 0

@@ -2,8 +2,8 @@
 // every recall order that keeps its laws.
 ghost use Rattle.model.specs.Theorems.{LimitsRight, LawOverRuns, InvariantKept, CycleTestExact};
 ghost use Rattle.model.specs.Theorems.{StepsLeadToOpen, FirstExact, ReportFits, RefusedByFirst};
-ghost use Rattle.model.specs.Theorems.{RefusedChangesNothing, RefusedWhenFull, NoNewStep};
-ghost use Rattle.model.specs.Theorems.{NoNewCycle, ExamplesRight};
+ghost use Rattle.model.specs.Theorems.{RefusedChangesNothing, RefusedWhenFull, CoveredExact};
+ghost use Rattle.model.specs.Theorems.{ChangesExact, NoNewStep, NoNewCycle, ExamplesRight};
 ghost use Rattle.model.specs.LawExamples.{LawExamplesRight};
 
 /// Exclusion, progress and recall hold of every run of calls.
@@ -39,14 +39,26 @@ pub fn refusals_are_exact()
     ensures unchanged { RefusedChangesNothing }
 {}
 
-/// A claim is refused for want of room only where 512 claims stand.
+/// A claim is refused for want of room exactly where nothing else refuses it, 512 claims stand and
+/// none covers it.
 pub fn refused_when_full()
     ensures { RefusedWhenFull }
+{}
+
+/// A claim is answered covered exactly where nothing but the room may refuse it and a claim covers
+/// it, however many claims stand.
+pub fn covered_is_exact()
+    ensures { CoveredExact }
 {}
 
 /// The limits are 64 dispatches, 1024 sections, 512 claims and a weight of 1000.
 pub fn limits_are_right()
     ensures { LimitsRight }
+{}
+
+/// What a call changes of the state follows from its answer and from whom it recalls.
+pub fn changes_are_exact()
+    ensures { ChangesExact }
 {}
 
 /// A claim that nothing blocks adds no step of waiting.

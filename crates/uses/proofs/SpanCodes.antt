@@ -39,4 +39,4 @@ span_written a s h =
     ((omega arith, omega arith), omega arith)
 
 pub exact_codes : ExactCodes
-exact_codes = record { reads = span_read; writes = span_written; up_0_5 = refl; down_4_9 = refl }
+exact_codes = record { reads = span_read; writes = span_written; up_0_5 = refl; down_4_9 = refl; up_0_64 = refl; up_0_255 = refl }

@@ -102,6 +102,8 @@ spans = record {
 pub record ExactCodes : Type 0 where
   pub reads : (s : Span) → Proper s → span_of (code_of s) ≡ Some s
   pub writes : (a : ℕ) (s : Span) → span_of a ≡ Some s → Proper s × (code_of s ≡ a)
-  -- for example, up 0 to 5 and down 4 to 9
+  -- for example, up 0 to 5, down 4 to 9, up 0 to 64 and up 0 to 255
   pub up_0_5 : span_of 65541 ≡ Some (record { direction = Up; from = 0; to = 5 })
   pub down_4_9 : span_of 132105 ≡ Some (record { direction = Down; from = 4; to = 9 })
+  pub up_0_64 : span_of 65600 ≡ Some (record { direction = Up; from = 0; to = 64 })
+  pub up_0_255 : span_of 65791 ≡ Some (record { direction = Up; from = 0; to = 255 })
