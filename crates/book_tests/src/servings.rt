@@ -28,7 +28,7 @@ fn sweeps(alloc: Global, count: usize) -> io::Result<(Vec<u8>, Vec<u8>)> {
 #[test]
 fn more_than_a_block_is_served(rt: HostRuntime) -> Result<(), Fail> {
     let (input, expected) = sweeps(rt.alloc(), MANY)?;
-    let mut console = Console::new(TwoUses, Newest, Detection::Continuous);
+    let mut console = Console::standard();
     let mut output = Vec::new(rt.alloc());
     serve_between(&mut input.as_slice(), &mut output, &mut console, rt.alloc())?;
     assert_eq!(&rt; output.as_slice(), expected.as_slice());

@@ -1,5 +1,4 @@
 // What a person would type at the console.
-use model::state::Detection;
 use orders::single::Newest;
 use session::console::Console;
 use std::alloc::{AllocError, Global};
@@ -10,7 +9,7 @@ use uses::two_uses::TwoUses;
 
 // A console as the program has it.
 fn new_console() -> Console<TwoUses, Newest> {
-    Console::new(TwoUses, Newest, Detection::Continuous)
+    Console::standard()
 }
 
 // Types a line with its byte 10, and checks what is printed for it.
