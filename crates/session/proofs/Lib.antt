@@ -5,6 +5,7 @@ pub mod Responding
 pub mod Standing
 pub mod OneCut
 pub mod OneAnswer
+pub mod Fronts
 pub mod Runs
 pub mod Histories
 pub mod Gathering

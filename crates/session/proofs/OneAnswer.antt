@@ -20,7 +20,7 @@ use Rattle.session.specs.Theorems.{TranscriptUnique, RunUnique}
 use Rattle.session.proofs.OneCut.{cut_once}
 
 -- a line is read in one way
-abbrev ReadsOnce : Type 0
+abbrev pub ReadsOnce : Type 0
 ReadsOnce = (line : List ℕ) (r s : Result Call Fault) → Reading line r → Reading line s → r ≡ s
 
 -- so is one with its number
@@ -55,7 +55,7 @@ turn_once once u o n s line _ _ _ _ (is_past late) (is_read early _) = absurd (o
 turn_once once u o n s line _ _ _ _ (is_past _) (is_past _) = (refl, refl)
 
 -- all lines together
-answered_once : (once : ReadsOnce) (u : Relations) (o : Order) (detection : Detection) (ls : Lines) (one other : List ℕ) (t r : State) → AnswersLines u o detection ls one t → AnswersLines u o detection ls other r → (one ≡ other) × (t ≡ r)
+pub answered_once : (once : ReadsOnce) (u : Relations) (o : Order) (detection : Detection) (ls : Lines) (one other : List ℕ) (t r : State) → AnswersLines u o detection ls one t → AnswersLines u o detection ls other r → (one ≡ other) × (t ≡ r)
 answered_once once u o detection _ _ _ _ _ nothing nothing = (refl, refl)
 answered_once once u o detection _ _ _ _ _ (then_line {ls = ls} {before = a} {now = b} {s = s} {t = t} {line = line} h turn) (then_line {before = c} {now = d} {s = r} {t = v} k other) =
     let before : (a ≡ c) × (s ≡ r) = answered_once once u o detection ls a c s r h k in

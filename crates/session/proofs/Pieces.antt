@@ -1,13 +1,14 @@
 -- A piece that is taken line by line.
-use Rattle.std.proofs.Common.{◌≡◌, ℕ, ◌+◌, ◌-◌, ◌<◌, ◌≤◌, List, [], ◌∷◌, ◌++◌, map, length, get_or, take, drop, sym, refl, ap, ◌∙◌, append_assoc, append-nil, arith}
+use Rattle.std.proofs.Common.{◌≡◌, ℕ, ◌+◌, ◌-◌, ◌<◌, ◌≤◌, List, [], ◌∷◌, ◌++◌, map, length, get_or, take, drop, sym, refl, ap, ◌∙◌, subst, append_assoc, append-nil, arith}
 use Rattle.std.proofs.lemmas.List.{take-append-drop, take_rest, drop_more, drop_all, nil_from_length}
 use Rattle.std.proofs.lemmas.Bool.Decides.{nat_tests}
 use Rattle.uses.specs.Relations.{Relations}
 use Rattle.model.specs.Recalling.{Order}
 use Rattle.model.specs.declared.state.Detection.{Detection}
+use Rattle.book.specs.declared.policy.Policy.{Policy}
 use Rattle.session.specs.Inputs.{line_length, all_bytes}
 use Rattle.session.specs.Lawful.{LawfulTranscript}
-use Rattle.session.specs.History.{HasRead, HasHistory}
+use Rattle.session.specs.History.{HasRead, HasFinished, HasHistory}
 use Rattle.session.specs.Stands.{position_of, StandsAfter, StandsAtEnd, Reads, ReadsAll, LosesAnswer, Finishes}
 use Rattle.session.specs.declared.console.Console.{Console}
 use Rattle.session.proofs.Histories.{after_input, after_also}
@@ -66,7 +67,7 @@ module _ {T O : Type 0} {tm om : _} (m : T → Relations) (p : O → Order) wher
       (λ detection input before _ read. rw (← append_assoc input bytes others, ← append_assoc before text then) (here detection (input ++ bytes) (before ++ text) read))
     where
       here : (detection : Detection) (input before : List ℕ) → StandsAfter m p first detection input before now → StandsAfter m p first detection (input ++ others) (before ++ then) next
-      here = rw (← policy) two.every
+      here = subst (λ (k : Policy T O). (detection : Detection) (input before : List ℕ) → HasRead (m k.table) (p k.order) detection input before (position_of now) → HasRead (m k.table) (p k.order) detection (input ++ others) (before ++ then) (position_of next)) policy two.every
 
   -- what is read first and then finished is finished
   pub finishes_on : (first now next : Console T O tm om) (bytes others text then : List ℕ) → now.book.policy ≡ first.book.policy → Reads m p first now bytes text → Finishes m p now next others then → Finishes m p first next (bytes ++ others) (text ++ then)
@@ -75,7 +76,7 @@ module _ {T O : Type 0} {tm om : _} (m : T → Relations) (p : O → Order) wher
       (λ detection input before _ read. rw (← append_assoc input bytes others, ← append_assoc before text then) (here detection (input ++ bytes) (before ++ text) read))
     where
       here : (detection : Detection) (input before : List ℕ) → StandsAfter m p first detection input before now → StandsAtEnd m p first detection (input ++ others) (before ++ then) next
-      here = rw (← policy) two.every
+      here = subst (λ (k : Policy T O). (detection : Detection) (input before : List ℕ) → HasRead (m k.table) (p k.order) detection input before (position_of now) → HasFinished (m k.table) (p k.order) detection (input ++ others) (before ++ then) (position_of next)) policy two.every
 
   module _ (first now next : Console T O tm om) (piece rest bytes left was out text all : List ℕ) (r : ReadPart first now piece rest was out) (splits : rest ≡ bytes ++ left) (more : Reads m p now next bytes text) where
     -- the first part and the bytes make the longer part

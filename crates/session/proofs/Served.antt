@@ -12,7 +12,7 @@ use Rattle.book.specs.Book.{state_of}
 use Rattle.session.specs.Inputs.{Lines, more, count, Cut, IsUnbroken, with_rest}
 use Rattle.session.specs.Transcript.{Turn, is_read, is_past, AnswersLines, then_line}
 use Rattle.session.specs.History.{Position, HasAnswered, HasRead, HasFinished, HasHistory}
-use Rattle.session.specs.Stands.{position_of, Reads, ReadsAll, LosesAnswer, EndsLines, Finishes, WritesFront, Serves, BreaksOff}
+use Rattle.session.specs.Stands.{position_of, Reads, ReadsAll, LosesAnswer, EndsLines, Finishes, WritesFront, AnswersAll, Serves, BreaksOff}
 use Rattle.session.specs.declared.console.Console.{Console}
 use Rattle.session.proofs.Cutting.{cut_more, cut_end}
 use Rattle.session.proofs.Runs.{lawful_run}
@@ -133,12 +133,10 @@ module _ {T O : Type 0} {tm om : _} (m : T → Relations) (p : O → Order) wher
   -- serving broke off where the console had read some bytes
   broken_off : (first now : Console T O tm om) (had left was is : Option (List ℕ)) (bytes others text lost : List ℕ) → Consumes had left (bytes ++ others) → Appends was is text → Reads m p first now bytes (text ++ lost) → BreaksOff m p first now had was is
   broken_off first now had left was is bytes others text lost consumed written read = record {
-    bytes = bytes;
     text = text;
     lost = lost;
-    first = known_front had left bytes others consumed;
     written = written;
-    answered = inl read;
+    answered = inl (record { bytes = bytes; first = known_front had left bytes others consumed; read = read });
   }
 
   module _ (first now : Console T O tm om) (had left was is : Option (List ℕ)) (answers : List ℕ) (r : Served m p first now had left was is answers) where
@@ -185,23 +183,19 @@ module _ {T O : Type 0} {tm om : _} (m : T → Relations) (p : O → Order) wher
 
   module _ (laws : (x : T) → UseLaws (m x)) (lawful : (x : O) → OrderLaws (p x)) (first now next : Console T O tm om) (had left was is is' : Option (List ℕ)) (answers fin : List ℕ) (r : Served m p first now had left was is answers) where
     -- the reader is at its end
-    pub served_end : IsAtEnd left → Finishes m p now next [] fin → Appends is is' fin → Serves m p first next had was is'
-    served_end ends finishes writes = record {
+    pub answered_at_end : IsAtEnd left → Finishes m p now next [] fin → AnswersAll m p first next had (r.text ++ fin)
+    answered_at_end ends finishes = record {
       bytes = r.bytes;
-      text = r.text ++ fin;
-      all = known_all had left r.bytes r.consumed ends;
-      written = Appends-trans was is is' r.text fin r.appended writes;
-      answered = rw (append-nil r.bytes) at (finishes_on m p first now next r.bytes [] r.text fin r.policy r.reads finishes);
+      whole = known_all had left r.bytes r.consumed ends;
+      finished = rw (append-nil r.bytes) at (finishes_on m p first now next r.bytes [] r.text fin r.policy r.reads finishes);
     }
 
     -- reading has stopped
-    pub served_stop : (stopped : Bool) → stopped ≡ leb 1000000 now.answered → stopped ≡ true → EndsLines m p now next fin → Appends is is' fin → Serves m p first next had was is'
-    served_stop stopped tells is_true ends writes = record {
+    pub answered_at_stop : (stopped : Bool) → stopped ≡ leb 1000000 now.answered → stopped ≡ true → EndsLines m p now next fin → AnswersAll m p first next had (r.text ++ fin)
+    answered_at_stop stopped tells is_true ends = record {
       bytes = r.bytes ++ unread left;
-      text = r.text ++ fin;
-      all = known_whole had left r.bytes r.consumed;
-      written = Appends-trans was is is' r.text fin r.appended writes;
-      answered = after_also m p first _ _ r.reads (λ detection input printed _ read. stopped_after detection input printed read);
+      whole = known_whole had left r.bytes r.consumed;
+      finished = after_also m p first _ _ r.reads (λ detection input printed _ read. stopped_after detection input printed read);
     }
       where
         u : Relations
@@ -222,13 +216,15 @@ module _ {T O : Type 0} {tm om : _} (m : T → Relations) (p : O → Order) wher
             (finished_past u o detection (laws first.book.policy.table) (lawful first.book.policy.order) ((printed ++ r.text) ++ fin) (position_of next) last stands.kept (unread left) (input ++ r.bytes) read.ended read.rest many read.cut
             (begun_past u o detection read.ended read.rest ((printed ++ r.text) ++ fin) (state_of next.book) many stands.answered))
 
+    -- the last answer was written
+    pub served : AnswersAll m p first next had (r.text ++ fin) → Appends is is' fin → Serves m p first next had was is'
+    served all writes = record { text = r.text ++ fin; written = Appends-trans was is is' r.text fin r.appended writes; answered = all }
+
     -- the last answer was written in part
-    pub end_failed : Finishes m p now next [] fin → WritesFront is is' fin → BreaksOff m p first next had was is'
-    end_failed finishes w = record {
-      bytes = r.bytes;
+    pub end_failed : AnswersAll m p first next had (r.text ++ fin) → WritesFront is is' fin → BreaksOff m p first next had was is'
+    end_failed all w = record {
       text = r.text ++ w.0;
       lost = w.1;
-      first = known_front had left r.bytes [] (rw (append-nil r.bytes) r.consumed);
       written = Appends-trans was is is' r.text w.0 r.appended w.3;
-      answered = inr (rw (append_assoc r.text w.0 w.1, ← w.2) (rw (append-nil r.bytes) at (finishes_on m p first now next r.bytes [] r.text fin r.policy r.reads finishes)));
+      answered = inr (rw (append_assoc r.text w.0 w.1, ← w.2) all);
     }

@@ -1,5 +1,5 @@
 -- The worked examples are right.
-use Rattle.std.proofs.Common.{◌≡◌, ℕ, suc, ◌<◌, List, [], ◌∷◌, ◌++◌, take, codes, Ok, Err, refl, ap, ◌∙◌, arith, rules}
+use Rattle.std.proofs.Common.{◌≡◌, ℕ, suc, ◌<◌, List, [], ◌∷◌, ◌++◌, take, codes, Some, Ok, Err, sym, refl, ap, ◌∙◌, arith, rules}
 use Rattle.std.specs.Fmt.{digits}
 use Rattle.uses.specs.TwoUses.{two_uses}
 use Rattle.orders.specs.Orders.{newest}
@@ -28,6 +28,7 @@ use Rattle.session.specs.Lawful as lawfully
 use Rattle.session.specs.Lawful.{GoesOn, RunOf}
 use Rattle.session.specs.NumberedLine.{Responds, by_fault, by_call}
 use Rattle.session.specs.History.{position, HasRead, HasFinished}
+use Rattle.session.specs.Stands.{WritesFront}
 use Rattle.session.specs.Examples.{input, text, lines, run, ExamplesRight}
 use Rattle.session.proofs.OneCut.{cut_once}
 use Rattle.session.proofs.OneAnswer.{run_unique}
@@ -215,6 +216,10 @@ line_ended =
       none_begun = refl;
     }
 
+-- a text that begins with a 2 does not begin with an o
+end_written : ¬ WritesFront (Some []) (Some (codes "ok")) (codes "2 ok")
+end_written w = let same : codes "2 ok" ≡ codes "ok" ++ w.1 = w.2 ∙ ap (λ (xs : List ℕ). xs ++ w.1) (sym w.3) in cc
+
 pub examples_right : ExamplesRight
 examples_right = record {
   session = session;
@@ -236,6 +241,8 @@ examples_right = record {
   line_begun = line_begun;
   line_forgotten = line_forgotten;
   line_ended = line_ended;
+  front_written = (codes "2 o", codes "k\n", refl, refl);
+  end_written = end_written;
   counted = refl;
   counted_to_the_last = refl;
 }

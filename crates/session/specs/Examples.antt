@@ -1,6 +1,6 @@
 -- Worked examples: inputs with their transcripts and their runs, the last lines that are read, and
 -- where a console stands. They can be checked by hand.
-use Rattle.std.specs.Prelude.{◌≡◌, ℕ, List, [], ◌∷◌, ◌++◌, codes, Err}
+use Rattle.std.specs.Prelude.{◌≡◌, ℕ, List, [], ◌∷◌, ◌++◌, codes, Some, Err}
 use Rattle.uses.specs.TwoUses.{two_uses}
 use Rattle.orders.specs.Orders.{newest}
 use Rattle.model.specs.State.{State, new}
@@ -16,6 +16,7 @@ use Rattle.session.specs.Transcript.{Turn, Transcript}
 use Rattle.session.specs.Lawful.{GoesOn, RunOf}
 use Rattle.session.specs.NumberedLine.{Responds}
 use Rattle.session.specs.History.{position, answered_of, HasRead, HasFinished}
+use Rattle.session.specs.Stands.{WritesFront}
 
 -- two stations each claim the other's dock; then a refusal, a wrong form, an empty line, and a last
 -- line that lacks its byte 10
@@ -93,6 +94,10 @@ pub record ExamplesRight : Type 0 where
   pub line_ended :
       HasFinished two_uses newest Continuous (codes "S\nS") (codes "1 ok\n2 ok\n")
       (position new_book 2 [])
+  -- the front of a text is written, and no other part of it
+  pub front_written :
+      WritesFront (Some (codes "1 ok\n")) (Some (codes "1 ok\n2 o")) (codes "2 ok\n")
+  pub end_written : ¬ WritesFront (Some []) (Some (codes "ok")) (codes "2 ok")
   -- lines are counted up to line 1000000
   pub counted : answered_of 999999 ≡ 999999
   pub counted_to_the_last : answered_of 1000001 ≡ 1000000

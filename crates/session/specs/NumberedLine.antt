@@ -53,7 +53,7 @@ module _ {T O : Type 0} {tm om : _} (uses : T → Relations) (orders : O → Ord
   orders_of = orders (order_of before)
 
   -- the line is responded to, and the table and the order stay
-  pub record AnswersNumbered (outcome : Result Answer Fault) (r : Report)
+  pub record CarriesOutLine (outcome : Result Answer Fault) (r : Report)
       (after : Book T O tm om) : Type 0 where
     pub responds :
         Responds uses_of orders_of number line (state_of before) outcome r (state_of after)

@@ -4,15 +4,30 @@ use Rattle.std.specs.Io.KnownBytes.{Appends}
 use Rattle.uses.specs.Relations.{Relations}
 use Rattle.model.specs.Recalling.{Order}
 use Rattle.model.specs.declared.state.Detection.{Detection}
-use Rattle.book.specs.Book.{state_of}
+use Rattle.book.specs.Book.{state_of, table_of as table_of_book, order_of as order_of_book}
+use Rattle.book.specs.declared.policy.Policy.{Policy}
 use Rattle.session.specs.Inputs.{Lines, more, with_rest}
 use Rattle.session.specs.History.{Position, position, HasAnswered, HasRead, HasFinished}
 use Rattle.session.specs.declared.console.Console.{Console}
 use Rattle.session.specs.declared.limits.TheConstants.{KEPT}
 
--- where a console stands
-abbrev pub position_of : {T O : Type 0} {tm om : _} → Console T O tm om → Position
-position_of c = position (state_of c.book) c.answered c.line
+-- here `c` is a console
+module _ {T O : Type 0} {tm om : _} (c : Console T O tm om) where
+  -- where it stands
+  abbrev pub position_of : Position
+  position_of = position (state_of c.book) c.answered c.line
+
+  -- its use table
+  abbrev pub table_of : T
+  table_of = table_of_book c.book
+
+  -- its recall order
+  abbrev pub order_of : O
+  order_of = order_of_book c.book
+
+  -- both
+  abbrev pub policy_of : Policy T O
+  policy_of = c.book.policy
 
 -- the first bytes of the text were written
 abbrev pub WritesFront : Option (List ℕ) → Option (List ℕ) → List ℕ → Type 0
@@ -25,20 +40,20 @@ module _ {T O : Type 0} {tm om : _} (u : T → Relations) (o : O → Order) wher
   abbrev pub Stands : Console T O tm om
       → Detection → Lines → List ℕ → List ℕ → Console T O tm om → Type 0
   Stands c detection ended rest text d =
-      HasAnswered (u c.book.policy.table) (o c.book.policy.order) detection ended rest text
+      HasAnswered (u (table_of c)) (o (order_of c)) detection ended rest text
       (position_of d)
 
   -- by the table and the order of a console: what a console has read
   abbrev pub StandsAfter : Console T O tm om
       → Detection → List ℕ → List ℕ → Console T O tm om → Type 0
   StandsAfter c detection input text d =
-      HasRead (u c.book.policy.table) (o c.book.policy.order) detection input text (position_of d)
+      HasRead (u (table_of c)) (o (order_of c)) detection input text (position_of d)
 
   -- by the table and the order of a console: a console has answered a whole input by its transcript
   abbrev pub StandsAtEnd : Console T O tm om
       → Detection → List ℕ → List ℕ → Console T O tm om → Type 0
   StandsAtEnd c detection input text d =
-      HasFinished (u c.book.policy.table) (o c.book.policy.order) detection input text
+      HasFinished (u (table_of c)) (o (order_of c)) detection input text
       (position_of d)
 
   -- the fact holds of every input that the console may have read, with the text printed for it;
@@ -105,26 +120,35 @@ module _ {T O : Type 0} {tm om : _} (u : T → Relations) (o : O → Order) wher
       → Stands before detection ended rest printed before
       → Stands before detection (with_rest ended rest) [] (printed ++ text) after
 
-  -- below, `had` are the bytes that a reader had, where they are known; `was` and `is` are those
-  -- that a writer held before and holds after
+  -- below, `had` are the bytes that a reader had, where they are known
 
-  -- the bytes that the reader had are answered to their end: what was printed for them was written
-  pub record Serves (before after : Console T O tm om)
-      (had was is : Option (List ℕ)) : Type 0 where
+  -- the first bytes that the reader had are read, and the text was printed for them
+  pub record ReadsFirst (before after : Console T O tm om)
+      (had : Option (List ℕ)) (text : List ℕ) : Type 0 where
     pub bytes : List ℕ
-    pub text : List ℕ
-    pub all : IfSome had (λ xs. xs ≡ bytes)
-    pub written : Appends was is text
-    pub answered : Finishes before after bytes text
+    pub first : IfSome had (λ all. (rest : List ℕ) × (all ≡ bytes ++ rest))
+    pub read : Reads before after bytes text
 
-  -- an error came: the first bytes that the reader had are read, or all of them answered to their
-  -- end; what was printed for them was written, but for what is lost at its end
-  pub record BreaksOff (before after : Console T O tm om)
-      (had was is : Option (List ℕ)) : Type 0 where
+  -- all bytes that the reader had are answered to their end, by the text
+  pub record AnswersAll (before after : Console T O tm om)
+      (had : Option (List ℕ)) (text : List ℕ) : Type 0 where
     pub bytes : List ℕ
-    pub text : List ℕ
-    pub lost : List ℕ
-    pub first : IfSome had (λ xs. (rest : List ℕ) × (xs ≡ bytes ++ rest))
-    pub written : Appends was is text
-    pub answered :
-        Reads before after bytes (text ++ lost) ⊎ Finishes before after bytes (text ++ lost)
+    pub whole : IfSome had (λ all. all ≡ bytes)
+    pub finished : Finishes before after bytes text
+
+  -- here `was` and `is` are the bytes that a writer held before and holds after
+  module _ (before after : Console T O tm om) (had was is : Option (List ℕ)) where
+    -- all bytes that the reader had are answered, and what was printed for them was written
+    pub record Serves : Type 0 where
+      pub text : List ℕ
+      pub written : Appends was is text
+      pub answered : AnswersAll before after had text
+
+    -- an error came: what was printed for the first bytes that the reader had, or for all of them,
+    -- was written but for its end, which is lost
+    pub record BreaksOff : Type 0 where
+      pub text : List ℕ
+      pub lost : List ℕ
+      pub written : Appends was is text
+      pub answered :
+          ReadsFirst before after had (text ++ lost) ⊎ AnswersAll before after had (text ++ lost)

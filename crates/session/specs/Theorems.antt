@@ -1,5 +1,5 @@
 -- The theorems on transcripts.
-use Rattle.std.specs.Prelude.{◌≡◌, ℕ, List}
+use Rattle.std.specs.Prelude.{◌≡◌, ℕ, List, ◌++◌}
 use Rattle.uses.specs.Relations.{Relations, UseLaws}
 use Rattle.orders.specs.Laws.{OrderLaws}
 use Rattle.model.specs.Recalling.{Order}
@@ -8,6 +8,7 @@ use Rattle.model.specs.declared.state.Detection.{Detection}
 use Rattle.session.specs.Inputs.{Lines}
 use Rattle.session.specs.Transcript.{Transcript}
 use Rattle.session.specs.Lawful.{RunOf, LawfulTranscript}
+use Rattle.session.specs.History.{Position, HasRead}
 
 -- an input has one transcript
 abbrev pub TranscriptUnique : Type 0
@@ -27,3 +28,10 @@ TranscriptLawful =
     (u : Relations) → UseLaws u → (o : Order) → OrderLaws o
     → (detection : Detection) (input text : List ℕ)
     → Transcript u o detection input text → LawfulTranscript u o detection input text
+
+-- what is printed while the first bytes of an input are read is the front of its transcript
+abbrev pub PrintedIsFront : Type 0
+PrintedIsFront =
+    (u : Relations) (o : Order) (detection : Detection) (input printed : List ℕ) (p : Position)
+    → HasRead u o detection input printed p → (bytes all : List ℕ)
+    → Transcript u o detection (input ++ bytes) all → (later : List ℕ) × (all ≡ printed ++ later)

@@ -49,14 +49,14 @@ impl<T: UseTable, O: RecallOrder> Console<T, O> {
     ghost use Rattle.std.specs.Prelude.{◌≡◌, [], ◌++◌, take, OnOk, OnErr, nat_le};
     ghost use Rattle.session.specs.Inputs.{IsUnbroken, line_length};
     ghost use Rattle.session.specs.History.{HasRead};
-    ghost use Rattle.session.specs.Stands.{position_of, AnswersLine, EndsLine, Reads, ReadsAll, LosesAnswer, EndsLines, Finishes};
+    ghost use Rattle.session.specs.Stands.{position_of, table_of, order_of, policy_of, AnswersLine, EndsLine, Reads, ReadsAll, LosesAnswer, EndsLines, Finishes};
 
     /// A console over a new book. Nothing has been read or printed.
     pub fn new(table: T, order: O, detection: Detection) -> Console<T, O>
         ensures starts { HasRead (T.meaning table) (O.meaning order) detection [] []
             (position_of result) }
-        ensures table { result.book.policy.table ≡ table }
-        ensures order { result.book.policy.order ≡ order }
+        ensures table { table_of result ≡ table }
+        ensures order { order_of result ≡ order }
     {
         Console {
             book: Book::new(table, order, detection),
@@ -77,7 +77,7 @@ impl<T: UseTable, O: RecallOrder> Console<T, O> {
     fn answer(&mut self, line: &[u8], printed: &mut TextBuffer)
         requires { IsUnbroken line.now }
         ensures done { AnswersLine T.meaning O.meaning self.old self.new line.now printed.new }
-        ensures policy { self.new.book.policy ≡ self.old.book.policy }
+        ensures policy { policy_of self.new ≡ policy_of self.old }
     {
         if self.answered == LAST_LINE {
             printed.clear();
@@ -104,7 +104,7 @@ impl<T: UseTable, O: RecallOrder> Console<T, O> {
     fn end_line(&mut self, bytes: &[u8], printed: &mut TextBuffer)
         requires { IsUnbroken bytes.now }
         ensures done { EndsLine T.meaning O.meaning self.old self.new bytes.now printed.new }
-        ensures policy { self.new.book.policy ≡ self.old.book.policy }
+        ensures policy { policy_of self.new ≡ policy_of self.old }
     {
         if self.line.len() == 0 {
             self.answer(bytes, printed);
@@ -121,7 +121,7 @@ impl<T: UseTable, O: RecallOrder> Console<T, O> {
         ensures taken { result ≡ line_length piece.now }
         ensures read { Reads T.meaning O.meaning self.old self.new (take result piece.now)
             printed.new }
-        ensures policy { self.new.book.policy ≡ self.old.book.policy }
+        ensures policy { policy_of self.new ≡ policy_of self.old }
     {
         let count = before_line_end(piece);
         if count == piece.len() {
@@ -137,7 +137,7 @@ impl<T: UseTable, O: RecallOrder> Console<T, O> {
     pub fn finish(&mut self, printed: &mut TextBuffer)
         ensures read { Finishes T.meaning O.meaning self.old self.new [] printed.new }
         ensures left { EndsLines T.meaning O.meaning self.old self.new printed.new }
-        ensures policy { self.new.book.policy ≡ self.old.book.policy }
+        ensures policy { policy_of self.new ≡ policy_of self.old }
     {
         if self.line.len() == 0 {
             printed.clear();
@@ -154,7 +154,7 @@ impl<T: UseTable, O: RecallOrder> Console<T, O> {
         ensures failed { OnErr result
             (LosesAnswer T.meaning O.meaning self.old self.new piece.now
             out.old.items out.new.items) }
-        ensures policy { self.new.book.policy ≡ self.old.book.policy }
+        ensures policy { policy_of self.new ≡ policy_of self.old }
     {
         let mut printed = TextBuffer::new();
         let mut rest = piece;

@@ -2,7 +2,7 @@
 ghost use Rattle.std.specs.Prelude.{◌≡◌, [], OnErr};
 ghost use Rattle.model.specs.Calls.{report_of};
 ghost use Rattle.session.specs.Transcript.{ReadAs};
-ghost use Rattle.session.specs.NumberedLine.{AnswersNumbered, KeepsLaw};
+ghost use Rattle.session.specs.NumberedLine.{CarriesOutLine, KeepsLaw};
 
 use crate::limits::LAST_LINE;
 use book::answer::Answer;
@@ -47,7 +47,7 @@ pub fn answer_line<T: UseTable, O: RecallOrder>(
     line: &[u8],
     report: &mut Report,
 ) -> Result<Answer, Fault>
-    ensures answered { AnswersNumbered T.meaning O.meaning book.old number line.now
+    ensures answered { CarriesOutLine T.meaning O.meaning book.old number line.now
         result report.new book.new }
     ensures law { KeepsLaw T.meaning O.meaning book.old number line.now book.new }
 {

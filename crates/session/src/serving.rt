@@ -3,7 +3,7 @@ ghost use Rattle.std.specs.Prelude.{◌≡◌, map, IfOk, OnOk, OnErr};
 ghost use Rattle.std.specs.Io.KnownBytes.{Appends};
 ghost use Rattle.session.specs.Inputs.{all_bytes};
 ghost use Rattle.session.specs.Lawful.{LawfulTranscript};
-ghost use Rattle.session.specs.Stands.{WritesFront, Serves, BreaksOff};
+ghost use Rattle.session.specs.Stands.{policy_of, WritesFront, Serves, BreaksOff};
 
 use crate::console::Console;
 use model::state::Detection;
@@ -81,7 +81,7 @@ pub fn serve_between<R: Read, W: Write, T: UseTable, O: RecallOrder>(
         (R.remaining input.old) (W.contents output.old) (W.contents output.new)) }
     ensures failed { OnErr result (BreaksOff T.meaning O.meaning console.old console.new
         (R.remaining input.old) (W.contents output.old) (W.contents output.new)) }
-    ensures policy { console.new.book.policy ≡ console.old.book.policy }
+    ensures policy { policy_of console.new ≡ policy_of console.old }
 {
     let mut block = [0; BLOCK];
     let mut answers = Vec::new(alloc);

@@ -1,10 +1,11 @@
-use Rattle.std.proofs.Common.{vec_items, arith}
+use Rattle.std.proofs.Common.{◌++◌, vec_items, arith}
 use Rattle.std.proofs.lemmas.Result.{on_ok_weaker, on_err_weaker, err_from_is_err_and}
 use Rattle.std.proofs.lemmas.Bool.Decides.{nat_tests}
-use Rattle.session.proofs.Served.{Served, served_nothing, read_failed, answer_lost, write_failed, served_more, served_end, served_stop, end_failed}
+use Rattle.session.specs.Stands.{AnswersAll}
+use Rattle.session.proofs.Served.{Served, served_nothing, read_failed, answer_lost, write_failed, served_more, answered_at_end, answered_at_stop, served, end_failed}
 use Rattle.session.proofs.serving.serve_between.Given as given
 use Rattle.session.proofs.serving.serve_between.Goals as goal
-use Rattle.session.proofs.serving.serve_between.Goals.{After-clear, then-count-eq0-via-then-count-eq0, then-count-eq0-via-else-count-eq0+then-has_stopped}
+use Rattle.session.proofs.serving.serve_between.Goals.{After-clear, After-drop-answers-then-count-eq0, then-count-eq0-via-then-count-eq0, then-count-eq0-via-else-count-eq0+then-has_stopped}
 
 -- a block more is served
 block_served : (g : given.Over) (c : After-clear g) → Served g.T.UseTable.meaning g.O.RecallOrder.meaning c.args.console.now c.take_all.new.self (g.R.Read.remaining c.args.input.now) (g.R.Read.remaining c.read.new.self) (g.W.Write.contents c.args.output.now) (g.W.Write.contents c.write_text.new.output) (vec_items c.clear.new.self)
@@ -32,24 +33,28 @@ returns-in_err-write_text-clause-failed g c =
     let p = err_from_is_err_and c.from_residual-in_err-write_text.result c.from_residual-in_err-write_text.ensures.1 in
     rw p.1 (write_failed g.T.UseTable.meaning g.O.RecallOrder.meaning c.args.console.now c.loop.console _ _ _ _ _ c.loop.invariant c.take_all.new.self _ _ c.in_ok-count.ensures.bytes.0 (vec_items c.take_all.new.out) c.in_ok-take_all.ensures.read _ (rw c.as_slice.ensures.value at c.in_err-write_text.ensures.front))
 
+-- the blocks before the last answer are served
+before_end : (g : given.Over) (c : After-drop-answers-then-count-eq0 g) → Served g.T.UseTable.meaning g.O.RecallOrder.meaning c.args.console.now c.take_all.new.self (g.R.Read.remaining c.args.input.now) (g.R.Read.remaining c.read.new.self) (g.W.Write.contents c.args.output.now) (g.W.Write.contents c.write_text.new.output) (vec_items c.clear.new.self)
+before_end g c = block_served g (goal.at.returns-then-count-eq0-clause-served g c).After-clear
+
+-- with the last answer the whole input is answered
+all_answered : (g : given.Over) (c : After-drop-answers-then-count-eq0 g) → AnswersAll g.T.UseTable.meaning g.O.RecallOrder.meaning c.args.console.now c.finish.new.self (g.R.Read.remaining c.args.input.now) ((before_end g c).text ++ c.finish.new.printed)
+all_answered g c =
+    elim c.then-count-eq0.branch [
+      | then-count-eq0-via-then-count-eq0 w ↦ answered_at_end g.T.UseTable.meaning g.O.RecallOrder.meaning g.met.T.UseTable.lawful g.met.O.RecallOrder.lawful c.args.console.now c.take_all.new.self c.finish.new.self _ _ _ _ (g.W.Write.contents c.write_text-then-count-eq0.new.output) _ c.finish.new.printed (before_end g c) (c.in_ok-count.ensures.bytes.1 (let t = w.if-count-eq0.true in grind (arith, nat_tests, t)) (omega arith)) c.finish.ensures.read
+      | then-count-eq0-via-else-count-eq0+then-has_stopped w ↦ answered_at_stop g.T.UseTable.meaning g.O.RecallOrder.meaning g.met.T.UseTable.lawful g.met.O.RecallOrder.lawful c.args.console.now c.take_all.new.self c.finish.new.self _ _ _ _ (g.W.Write.contents c.write_text-then-count-eq0.new.output) _ c.finish.new.printed (before_end g c) w.has_stopped.result w.has_stopped.ensures w.if-has_stopped.true c.finish.ensures.left
+    ]
+
 pub returns-then-count-eq0-clause-served : goal.returns-then-count-eq0-clause-served
 returns-then-count-eq0-clause-served g c =
-    let m = g.T.UseTable.meaning in
-    let p = g.O.RecallOrder.meaning in
-    let mid = c.take_all.new.self in
-    let fin = c.finish.new.printed in
-    let served = block_served g (goal.at.returns-then-count-eq0-clause-served g c).After-clear in
     on_ok_weaker c.write_text-then-count-eq0.result
-    (λ writes. elim c.then-count-eq0.branch [
-      | then-count-eq0-via-then-count-eq0 w ↦ served_end m p g.met.T.UseTable.lawful g.met.O.RecallOrder.lawful c.args.console.now mid c.finish.new.self _ _ _ _ _ _ fin served (c.in_ok-count.ensures.bytes.1 (let t = w.if-count-eq0.true in grind (arith, nat_tests, t)) (omega arith)) c.finish.ensures.read (rw c.text.ensures.shown at writes)
-      | then-count-eq0-via-else-count-eq0+then-has_stopped w ↦ served_stop m p g.met.T.UseTable.lawful g.met.O.RecallOrder.lawful c.args.console.now mid c.finish.new.self _ _ _ _ _ _ fin served w.has_stopped.result w.has_stopped.ensures w.if-has_stopped.true c.finish.ensures.left (rw c.text.ensures.shown at writes)
-    ])
+    (λ writes. served g.T.UseTable.meaning g.O.RecallOrder.meaning g.met.T.UseTable.lawful g.met.O.RecallOrder.lawful c.args.console.now c.take_all.new.self c.finish.new.self _ _ _ _ _ _ c.finish.new.printed (before_end g c) (all_answered g c) (rw c.text.ensures.shown at writes))
     c.write_text-then-count-eq0.ensures.whole
 
 pub returns-then-count-eq0-clause-failed : goal.returns-then-count-eq0-clause-failed
 returns-then-count-eq0-clause-failed g c =
     on_err_weaker c.write_text-then-count-eq0.result
-    (λ front. end_failed g.T.UseTable.meaning g.O.RecallOrder.meaning g.met.T.UseTable.lawful g.met.O.RecallOrder.lawful c.args.console.now c.take_all.new.self c.finish.new.self _ _ _ _ _ _ c.finish.new.printed (block_served g (goal.at.returns-then-count-eq0-clause-failed g c).After-clear) c.finish.ensures.read (rw c.text.ensures.shown at front))
+    (λ front. end_failed g.T.UseTable.meaning g.O.RecallOrder.meaning g.met.T.UseTable.lawful g.met.O.RecallOrder.lawful c.args.console.now c.take_all.new.self c.finish.new.self _ _ _ _ _ _ c.finish.new.printed (before_end g c) (all_answered g c) (rw c.text.ensures.shown at front))
     c.write_text-then-count-eq0.ensures.front
 
 pub returns-clause-failed : goal.returns-clause-failed
