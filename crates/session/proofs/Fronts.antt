@@ -1,5 +1,5 @@
 -- What is printed for the first bytes of an input is the front of its transcript.
-use Rattle.std.proofs.Common.{◌≡◌, ℕ, Bool, true, false, eqb, List, [], ◌∷◌, ◌++◌, sym, refl, ap, ◌∙◌, subst, append_assoc, append-nil, arith}
+use Rattle.std.proofs.Common.{◌≡◌, ℕ, Bool, true, false, eqb, ◌⊎◌, inl, inr, Some, List, [], ◌∷◌, ◌++◌, sym, refl, ap, ◌∙◌, subst, append_assoc, append-nil, arith}
 use Rattle.std.proofs.lemmas.Bool.Decides.{nat_tests}
 use Rattle.uses.specs.Relations.{Relations}
 use Rattle.model.specs.State.{State}
@@ -7,11 +7,14 @@ use Rattle.model.specs.Recalling.{Order}
 use Rattle.model.specs.declared.state.Detection.{Detection}
 use Rattle.protocol.proofs.OneReading.{reading_unique}
 use Rattle.session.specs.Inputs.{Lines, more, IsUnbroken, Cut, with_rest}
-use Rattle.session.specs.Transcript.{AnswersLines, then_line}
-use Rattle.session.specs.Theorems.{PrintedIsFront}
+use Rattle.session.specs.Transcript.{AnswersLines, then_line, Transcript}
+use Rattle.session.specs.Lawful.{LawfulTranscript}
+use Rattle.session.specs.Stands.{position_of, table_of, order_of, StandsAfter, ReadsFirst, AnswersAll}
+use Rattle.session.specs.Theorems.{PrintedIsFront, ServedIsTranscript, ServedIsFront}
+use Rattle.session.specs.declared.console.Console.{Console}
 use Rattle.session.proofs.Cutting.{cut_more, cut_end}
 use Rattle.session.proofs.OneCut.{cut_once}
-use Rattle.session.proofs.OneAnswer.{answered_once}
+use Rattle.session.proofs.OneAnswer.{answered_once, transcript_unique}
 
 -- the lines begin with these
 data Begins (first : Lines) : Lines → Type 0 where
@@ -57,3 +60,27 @@ printed_is_front u o detection input printed p h bytes all t =
     let cuts : (t.ended ≡ gone.ended) × (t.rest ≡ gone.rest) = cut_once (input ++ bytes) t.ended gone.ended t.rest gone.rest t.cut gone.cut in
     prints_on u o detection h.ended printed p.state h.stands.answered (with_rest t.ended t.rest) all t.left
     (begins_rest h.ended t.ended t.rest (subst (Begins h.ended) (sym cuts.0) gone.begins)) t.answered
+
+module _ {T O : Type 0} {tm om : _} (m : T → Relations) (p : O → Order) (before after : Console T O tm om) where
+  pub served_is_transcript : ServedIsTranscript m p before after
+  served_is_transcript had was is serves detection input printed h =
+      let all = serves.answered in
+      (serves.text, serves.written, subst (λ (xs : List ℕ). LawfulTranscript (m (table_of before)) (p (order_of before)) detection (input ++ xs) (printed ++ serves.text)) (sym all.whole) (all.finished.every detection input printed h).done)
+
+  -- all that should have been given begins with what was printed
+  begins_printed : (had text lost : List ℕ) → ReadsFirst m p before after (Some had) (text ++ lost) ⊎ AnswersAll m p before after (Some had) (text ++ lost) → (detection : Detection) (input printed all : List ℕ) → StandsAfter m p before detection input printed before → Transcript (m (table_of before)) (p (order_of before)) detection (input ++ had) all → (later : List ℕ) × (all ≡ printed ++ (text ++ later))
+  begins_printed had text lost (inl r) detection input printed all h t =
+      let same : input ++ had ≡ (input ++ r.bytes) ++ r.first.0 = ap (λ (xs : List ℕ). input ++ xs) r.first.1 ∙ sym (append_assoc input r.bytes r.first.0) in
+      let front : (later : List ℕ) × (all ≡ (printed ++ (text ++ lost)) ++ later) = printed_is_front (m (table_of before)) (p (order_of before)) detection (input ++ r.bytes) (printed ++ (text ++ lost)) (position_of after) (r.read.every detection input printed h) r.first.0 all
+      (subst (λ (xs : List ℕ). Transcript (m (table_of before)) (p (order_of before)) detection xs all) same t) in
+      (lost ++ front.0, front.1 ∙ (append_assoc printed (text ++ lost) front.0 ∙ ap (λ (xs : List ℕ). printed ++ xs) (append_assoc text lost front.0)))
+  begins_printed had text lost (inr a) detection input printed all h t = (
+    lost,
+    transcript_unique (m (table_of before)) (p (order_of before)) detection (input ++ a.bytes) all (printed ++ (text ++ lost))
+        (subst (λ (xs : List ℕ). Transcript (m (table_of before)) (p (order_of before)) detection (input ++ xs) all) a.whole t) (a.finished.every detection input printed h).done.transcript,
+  )
+
+  pub served_is_front : ServedIsFront m p before after
+  served_is_front had was is breaks detection input printed all h t =
+      let begins : (later : List ℕ) × (all ≡ printed ++ (breaks.text ++ later)) = begins_printed had breaks.text breaks.lost breaks.answered detection input printed all h t in
+      (breaks.text, begins.0, breaks.written, begins.1)
