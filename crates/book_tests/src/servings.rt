@@ -6,6 +6,7 @@ use session::serving::{serve_between, transcript};
 use settings::setting::choose;
 use std::alloc::Global;
 use std::io;
+use std::io::{Cursor, ErrorKind};
 use std::process::Abort;
 use std::test::Fail;
 use uses::two_uses::TwoUses;
@@ -28,11 +29,25 @@ fn sweeps(alloc: Global, count: usize) -> io::Result<(Vec<u8>, Vec<u8>)> {
 #[test]
 fn more_than_a_block_is_served(rt: HostRuntime) -> Result<(), Fail> {
     let (input, expected) = sweeps(rt.alloc(), MANY)?;
-    let mut console = Console::new(TwoUses, Newest, Detection::Continuous);
+    let mut console = Console::standard();
     let mut output = Vec::new(rt.alloc());
     serve_between(&mut input.as_slice(), &mut output, &mut console, rt.alloc())?;
     assert_eq!(&rt; output.as_slice(), expected.as_slice());
     Ok(())
+}
+
+#[test]
+fn an_error_of_the_writer_ends_it(rt: HostRuntime) {
+    let mut console = Console::standard();
+    let mut output = Cursor::new([0; 8]);
+    let served = serve_between(
+        &mut b"S\nS\nS\n".as_slice(),
+        &mut output,
+        &mut console,
+        rt.alloc(),
+    );
+    assert!(&rt; served.is_err_and(|error| error.kind() == ErrorKind::WriteZero));
+    assert_eq!(&rt; output.into_inner(), *b"1 ok\n2 o");
 }
 
 #[test]

@@ -1,7 +1,12 @@
 // What a person would type at the console.
+use crate::setting::new_book;
+use book::answer::{Answer, Refusal};
+use model::report::Report;
 use model::state::Detection;
 use orders::single::Newest;
+use protocol::fault::{Fault, Layer};
 use session::console::Console;
+use session::numbered_line::answer_line;
 use std::alloc::{AllocError, Global};
 use std::process::Abort;
 use std::test::Fail;
@@ -10,7 +15,7 @@ use uses::two_uses::TwoUses;
 
 // A console as the program has it.
 fn new_console() -> Console<TwoUses, Newest> {
-    Console::new(TwoUses, Newest, Detection::Continuous)
+    Console::standard()
 }
 
 // Types a line with its byte 10, and checks what is printed for it.
@@ -77,4 +82,19 @@ fn a_rest_is_answered_at_the_end(rt: HostRuntime) {
     assert_eq!(rt; printed.text(), b"2 ok\n".as_slice());
     assert_eq!(rt; printed.count(), 5);
     assert_eq!(rt; printed.bytes().len(), 2048);
+}
+
+#[test]
+fn a_line_of_a_number_is_answered(rt: HostRuntime) {
+    let mut book = new_book(Detection::Continuous);
+    let mut report = Report::empty();
+    let opened = answer_line(&mut book, 1, b"O 1 5", &mut report);
+    assert_eq!(&rt; opened, Ok(Answer::Ok));
+    let unknown = Fault::Refused(Refusal::NotKnown);
+    let claimed = answer_line(&mut book, 2, b"C 1 10 9", &mut report);
+    assert_eq!(&rt; claimed, Err(unknown));
+    assert_eq!(&rt; [unknown.number(), unknown.place()], [3, 3]);
+    assert_eq!(&rt; unknown.layer(), Layer::UseTable);
+    let late = answer_line(&mut book, 1000001, b"S", &mut report);
+    assert_eq!(&rt; late, Err(Fault::TooManyLines));
 }

@@ -6,16 +6,13 @@
 mod arguments;
 
 use crate::arguments::read_setting;
-use model::state::Detection;
 use orders::order::RecallOrder;
-use orders::single::Newest;
 use session::console::Console;
-use session::serving::serve;
+use session::serving::serve_between;
 use settings::setting::Wrong;
 use std::process::ExitCode;
 use std::{env, io};
 use uses::table::UseTable;
-use uses::two_uses::TwoUses;
 
 // How the program is called.
 const USAGE: &str = "usage: console [DETECTION TABLE ORDER[,ORDER]]
@@ -30,15 +27,12 @@ fn complain(rt: &HostRuntime, wrong: Wrong) -> io::Result<ExitCode> {
     Ok(ExitCode::FAILURE)
 }
 
-// Serves standard input with a new book.
-fn serve_book<T: UseTable + Drop, O: RecallOrder + Drop>(
+// Serves standard input.
+fn serve<T: UseTable + Drop, O: RecallOrder + Drop>(
     rt: &HostRuntime,
-    table: T,
-    order: O,
-    detection: Detection,
+    mut console: Console<T, O>,
 ) -> io::Result<ExitCode> {
-    let mut console = Console::new(table, order, detection);
-    serve(rt, &mut console)?;
+    serve_between(&mut rt.stdin(), &mut rt.stdout(), &mut console, rt.alloc())?;
     Ok(ExitCode::SUCCESS)
 }
 
@@ -47,8 +41,11 @@ fn main(rt: HostRuntime) -> io::Result<ExitCode> {
         return complain(&rt, Wrong::Unreadable);
     };
     match read_setting(args) {
-        Ok(None) => serve_book(&rt, TwoUses, Newest, Detection::Continuous),
-        Ok(Some(chosen)) => serve_book(&rt, chosen.table, chosen.order, chosen.detection),
+        Ok(None) => serve(&rt, Console::standard()),
+        Ok(Some(chosen)) => serve(
+            &rt,
+            Console::new(chosen.table, chosen.order, chosen.detection),
+        ),
         Err(wrong) => complain(&rt, wrong),
     }
 }

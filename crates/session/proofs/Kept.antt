@@ -10,7 +10,7 @@ use Rattle.protocol.specs.Reading.{Reading, too_long, no_letter, wrong_form, cor
 use Rattle.protocol.specs.Words.{Reply}
 use Rattle.protocol.specs.declared.fault.Fault.{Fault}
 use Rattle.protocol.specs.declared.fault.Fault.TheVariants.{NoLetter, WrongForm}
-use Rattle.session.specs.Transcript.{Gives, too_many, faulty, carried}
+use Rattle.session.specs.Transcript.{ReadAs, too_many, in_time, Gives, faulty, carried}
 
 -- if the first 33 bytes are at most 32, they are all
 kept_all : (line : List ℕ) → length (take 33 line) ≤ 32 → take 33 line ≡ line
@@ -34,8 +34,12 @@ reading_cut line _ (correct few c h) = subst (λ (l : List ℕ). Reading l (Ok c
 reading_same : (first line : List ℕ) (r : Result Call Fault) → take 33 first ≡ take 33 line → Reading first r → Reading line r
 reading_same first line r same h = reading_kept line r (subst (λ (l : List ℕ). Reading l r) same (reading_cut first r h))
 
+-- under any number
+pub read_as_same : (number : ℕ) (first line : List ℕ) (r : Result Call Fault) → take 33 first ≡ take 33 line → ReadAs number first r → ReadAs number line r
+read_as_same number first line _ same (too_many late) = too_many late
+read_as_same number first line _ same (in_time below {r = r} reads) = in_time below (reading_same first line r same reads)
+
 -- so they give the same
 pub gives_same : (u : Relations) (o : Order) (number : ℕ) (s : State) (first line : List ℕ) (reply : Reply) (recalls wakes : List ReportEntry) (t : State) → take 33 first ≡ take 33 line → Gives u o number s first reply recalls wakes t → Gives u o number s line reply recalls wakes t
-gives_same u o number s first line _ _ _ _ same (too_many is) = too_many is
-gives_same u o number s first line _ _ _ _ same (faulty below f r) = faulty below f (reading_same first line (Err f) same r)
-gives_same u o number s first line _ _ _ _ same (carried below c r) = carried below c (reading_same first line (Ok c) same r)
+gives_same u o number s first line _ _ _ _ same (faulty f reads) = faulty f (read_as_same number first line (Err f) same reads)
+gives_same u o number s first line _ _ _ _ same (carried c reads) = carried c (read_as_same number first line (Ok c) same reads)

@@ -5,7 +5,11 @@ pub mod Responding
 pub mod Standing
 pub mod OneCut
 pub mod OneAnswer
+pub mod Fronts
+pub mod Runs
+pub mod Histories
 pub mod Gathering
 pub mod Pieces
+pub mod Written
 pub mod Served
 pub mod Worked

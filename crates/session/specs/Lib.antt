@@ -1,6 +1,8 @@
 pub mod Inputs
 pub mod Transcript
-pub mod Responses
+pub mod Lawful
+pub mod NumberedLine
+pub mod History
 pub mod Stands
 pub mod Theorems
 pub mod Examples

@@ -1,30 +1,29 @@
 // A session over one input.
-ghost use Rattle.std.specs.Prelude.{◌≡◌, ◌≤◌, [], ◌==◌, OnErr};
+ghost use Rattle.std.specs.Prelude.{◌≡◌, ◌≤◌, ◌==◌};
 ghost use Rattle.std.specs.List.{position_or_len};
-ghost use Rattle.model.specs.Calls.{report_of};
-ghost use Rattle.session.specs.Responses.{IsRequest};
+ghost use Rattle.book.specs.Tables.{state};
+ghost use Rattle.session.specs.History.{position, HasHistory};
 ghost use Rattle.session.specs.declared.limits.TheConstants.{LAST_LINE};
 
 use crate::limits::{KEPT, LAST_LINE};
-use book::answer::Answer;
+use crate::numbered_line::answer_line;
 use book::book::Book;
 use fixed_list::FixedList;
 use memchr::memchr;
-use model::call::Call;
 use model::report::Report;
 use model::state::Detection;
 use orders::order::RecallOrder;
-use protocol::fault::Fault;
-use protocol::form::read_call;
+use orders::single::Newest;
 use protocol::outcome::print_outcome;
 use std::alloc::AllocError;
 use std::mem;
 use text_buffer::TextBuffer;
 use uses::table::UseTable;
+use uses::two_uses::TwoUses;
 
 /// A console (a session over one input): a book, and the line that has begun.
 #[derive(Drop)]
-pub struct Console<T: UseTable, O> {
+pub struct Console<T: UseTable, O: RecallOrder> {
     pub(crate) book: Book<T, O>,
     // how many lines were answered
     pub(crate) answered: u32,
@@ -33,6 +32,9 @@ pub struct Console<T: UseTable, O> {
     // what the last call told
     pub(crate) report: Report,
     ghost few: { answered ≤ LAST_LINE },
+    // some input was read, and answered so: what holds of every input holds of every console
+    ghost history: { HasHistory (T.meaning book.policy.table) (O.meaning book.policy.order)
+        (position (state book.tables) answered line) },
 }
 
 // How many bytes of a piece stand before its first byte 10, or how many it has if none is in it.
@@ -43,44 +45,18 @@ fn before_line_end(piece: &[u8]) -> usize
     memchr(b'\n', piece).unwrap_or(piece.len())
 }
 
-// Reads the line of a number as a call.
-#[inline(always)]
-fn read_line(number: u32, line: &[u8]) -> Result<Call, Fault>
-    requires { number ≤ LAST_LINE }
-    ensures { IsRequest number line.now result }
-{
-    if number == LAST_LINE {
-        return Err(Fault::TooManyLines);
-    }
-    read_call(line)
-}
-
-// Reads the line of a number as a call. Where it is none, the report tells of nobody.
-#[inline(always)]
-fn request(number: u32, line: &[u8], report: &mut Report) -> Result<Call, Fault>
-    requires { number ≤ LAST_LINE }
-    ensures read { IsRequest number line.now result }
-    ensures told { OnErr result (report.new ≡ report_of [] []) }
-{
-    let request = read_line(number, line);
-    if request.is_err() {
-        *report = Report::empty();
-    }
-    request
-}
-
 impl<T: UseTable, O: RecallOrder> Console<T, O> {
-    ghost use Rattle.std.specs.Prelude.{◌≡◌, [], ◌++◌, take, OnOk, OnErr};
-    ghost use Rattle.book.specs.Tables.{state};
-    ghost use Rattle.session.specs.Inputs.{line_length};
-    ghost use Rattle.session.specs.Responses.{Responds};
-    ghost use Rattle.session.specs.Stands.{HasRead, AnswersLine, EndsLine, Reads, ReadsAll, LosesAnswer, EndsLines, Finishes, TellsStop};
+    ghost use Rattle.std.specs.Prelude.{◌≡◌, [], ◌++◌, take, OnOk, OnErr, nat_le};
+    ghost use Rattle.session.specs.Inputs.{IsUnbroken, line_length};
+    ghost use Rattle.session.specs.History.{HasRead};
+    ghost use Rattle.session.specs.Stands.{position_of, table_of, order_of, policy_of, AnswersLine, EndsLine, Reads, ReadsAll, LosesAnswer, EndsLines, Finishes};
 
     /// A console over a new book. Nothing has been read or printed.
     pub fn new(table: T, order: O, detection: Detection) -> Console<T, O>
-        ensures starts { HasRead (T.meaning table) (O.meaning order) detection [] [] result }
-        ensures table { result.book.policy.table ≡ table }
-        ensures order { result.book.policy.order ≡ order }
+        ensures starts { HasRead (T.meaning table) (O.meaning order) detection [] []
+            (position_of result) }
+        ensures table { table_of result ≡ table }
+        ensures order { order_of result ≡ order }
     {
         Console {
             book: Book::new(table, order, detection),
@@ -92,41 +68,29 @@ impl<T: UseTable, O: RecallOrder> Console<T, O> {
 
     /// Has line 1000000 been answered? Then nothing more is printed, whatever comes.
     pub fn has_stopped(&self) -> bool
-        ensures { TellsStop T.meaning O.meaning self.now result }
+        ensures { result ≡ nat_le LAST_LINE (position_of self.now).answered }
     {
         self.answered >= LAST_LINE
     }
 
-    // Reads a line, whose number is that of the answers, as a call, and carries it out.
-    fn respond(&mut self, line: &[u8]) -> Result<Answer, Fault>
-        ensures done { Responds (T.meaning self.old.book.policy.table)
-            (O.meaning self.old.book.policy.order) self.old.answered (state self.old.book.tables)
-            line.now result self.new.report (state self.new.book.tables) }
-        ensures policy { self.new.book.policy ≡ self.old.book.policy }
-        ensures answered { self.new.answered ≡ self.old.answered }
-        ensures line { self.new.line ≡ self.old.line }
-    {
-        let call = request(self.answered, line, &mut self.report)?;
-        let answer = self.book.carry_out(call, &mut self.report)?;
-        Ok(answer)
-    }
-
     // Answers a line. After line 1000000 nothing is printed.
     fn answer(&mut self, line: &[u8], printed: &mut TextBuffer)
+        requires { IsUnbroken line.now }
         ensures done { AnswersLine T.meaning O.meaning self.old self.new line.now printed.new }
-        ensures policy { self.new.book.policy ≡ self.old.book.policy }
+        ensures policy { policy_of self.new ≡ policy_of self.old }
     {
         if self.answered == LAST_LINE {
             printed.clear();
             return;
         }
         self.answered += 1;
-        let outcome = self.respond(line);
+        let outcome = answer_line(&mut self.book, self.answered, line, &mut self.report);
         print_outcome(self.answered, outcome, &self.report, printed);
     }
 
     // Keeps bytes of the line that has begun, as far as they are among its first 33.
     fn gather(&mut self, bytes: &[u8])
+        requires { IsUnbroken bytes.now }
         ensures kept { self.new.line ≡ take KEPT (self.old.line ++ bytes.now) }
         ensures book { self.new.book ≡ self.old.book }
         ensures answered { self.new.answered ≡ self.old.answered }
@@ -138,8 +102,9 @@ impl<T: UseTable, O: RecallOrder> Console<T, O> {
     // The line that has begun ends with these bytes, and is answered. A line that lies in them
     // whole is read where it lies.
     fn end_line(&mut self, bytes: &[u8], printed: &mut TextBuffer)
+        requires { IsUnbroken bytes.now }
         ensures done { EndsLine T.meaning O.meaning self.old self.new bytes.now printed.new }
-        ensures policy { self.new.book.policy ≡ self.old.book.policy }
+        ensures policy { policy_of self.new ≡ policy_of self.old }
     {
         if self.line.len() == 0 {
             self.answer(bytes, printed);
@@ -156,7 +121,7 @@ impl<T: UseTable, O: RecallOrder> Console<T, O> {
         ensures taken { result ≡ line_length piece.now }
         ensures read { Reads T.meaning O.meaning self.old self.new (take result piece.now)
             printed.new }
-        ensures policy { self.new.book.policy ≡ self.old.book.policy }
+        ensures policy { policy_of self.new ≡ policy_of self.old }
     {
         let count = before_line_end(piece);
         if count == piece.len() {
@@ -170,9 +135,9 @@ impl<T: UseTable, O: RecallOrder> Console<T, O> {
 
     /// The input has ended: the line that has begun, if there is one, is answered.
     pub fn finish(&mut self, printed: &mut TextBuffer)
-        ensures read { Finishes T.meaning O.meaning self.old printed.new }
+        ensures read { Finishes T.meaning O.meaning self.old self.new [] printed.new }
         ensures left { EndsLines T.meaning O.meaning self.old self.new printed.new }
-        ensures policy { self.new.book.policy ≡ self.old.book.policy }
+        ensures policy { policy_of self.new ≡ policy_of self.old }
     {
         if self.line.len() == 0 {
             printed.clear();
@@ -189,7 +154,7 @@ impl<T: UseTable, O: RecallOrder> Console<T, O> {
         ensures failed { OnErr result
             (LosesAnswer T.meaning O.meaning self.old self.new piece.now
             out.old.items out.new.items) }
-        ensures policy { self.new.book.policy ≡ self.old.book.policy }
+        ensures policy { policy_of self.new ≡ policy_of self.old }
     {
         let mut printed = TextBuffer::new();
         let mut rest = piece;
@@ -199,5 +164,22 @@ impl<T: UseTable, O: RecallOrder> Console<T, O> {
             rest = &rest[taken..];
         }
         Ok(())
+    }
+}
+
+impl Console<TwoUses, Newest> {
+    ghost use Rattle.std.specs.Prelude.{[]};
+    ghost use Rattle.uses.specs.TwoUses.{two_uses};
+    ghost use Rattle.orders.specs.Orders.{newest};
+    ghost use Rattle.model.specs.declared.state.Detection.TheVariants.{Continuous};
+    ghost use Rattle.session.specs.History.{HasRead};
+    ghost use Rattle.session.specs.Stands.{position_of};
+
+    /// The console of a line as it is usually kept: over a new book that is continuous, has the two
+    /// uses look and move, and recalls the newest.
+    pub fn standard() -> Console<TwoUses, Newest>
+        ensures { HasRead two_uses newest Continuous [] [] (position_of result) }
+    {
+        Console::new(TwoUses, Newest, Detection::Continuous)
     }
 }

@@ -1,8 +1,9 @@
-// A whole input, in pieces, from a reader or at standard input.
-ghost use Rattle.std.specs.Prelude.{map, IfOk, OnOk};
+// A whole input, in pieces or from a reader.
+ghost use Rattle.std.specs.Prelude.{◌≡◌, map, IfOk, OnOk, OnErr};
+ghost use Rattle.std.specs.Io.KnownBytes.{Appends};
 ghost use Rattle.session.specs.Inputs.{all_bytes};
-ghost use Rattle.session.specs.Transcript.{Transcript};
-ghost use Rattle.session.specs.Stands.{Serves};
+ghost use Rattle.session.specs.Lawful.{LawfulTranscript};
+ghost use Rattle.session.specs.Stands.{policy_of, WritesFront, Serves, BreaksOff};
 
 use crate::console::Console;
 use model::state::Detection;
@@ -22,7 +23,7 @@ pub fn transcript<T: UseTable + Drop, O: RecallOrder + Drop>(
     pieces: &[&[u8]],
     alloc: Global,
 ) -> Result<Vec<u8>, AllocError>
-    ensures { IfOk result (λ v. Transcript (T.meaning table) (O.meaning order) detection
+    ensures { IfOk result (λ v. LawfulTranscript (T.meaning table) (O.meaning order) detection
         (all_bytes (map (λ p. p.now) pieces.now)) v.items) }
 {
     let mut console = Console::new(table, order, detection);
@@ -39,10 +40,36 @@ pub fn transcript<T: UseTable + Drop, O: RecallOrder + Drop>(
 // How many bytes are read at once.
 const BLOCK: usize = 65536;
 
+// Writes a text, by as many writes as it takes. On an error the first bytes of it are written; of
+// what std's `write_all` wrote then, its contract says nothing.
+fn write_text<W: Write>(output: &mut W, text: &[u8]) -> io::Result<()>
+    ensures whole { OnOk result (Appends (W.contents output.old) (W.contents output.new) text.now) }
+    ensures front { OnErr result
+        (WritesFront (W.contents output.old) (W.contents output.new) text.now) }
+{
+    let mut rest = text;
+    for _ in 0..u64::MAX {
+        if rest.is_empty() {
+            return Ok(());
+        }
+        match output.write(rest) {
+            Ok(0) => return Err(io::Error::from(io::ErrorKind::WriteZero)),
+            Ok(count) => rest = &rest[count..],
+            Err(error) => {
+                if error.kind() != io::ErrorKind::Interrupted {
+                    return Err(error);
+                }
+            }
+        }
+    }
+    Err(io::Error::from(io::ErrorKind::TimedOut))
+}
+
 /// Answers the lines that a reader gives on a writer, until the input ends or reading stops.
 /// What a read gives is answered at once, and written at once: so a line that is typed is answered
 /// when it ends, and a file is read and answered in blocks.
-/// An error of the reader or the writer, or for lack of memory, ends it.
+/// An error of the reader or the writer, or for lack of memory, ends it. What was written then is
+/// the front of what should have been.
 // No input takes as many reads as the loop has turns; if one did, it would end in an error.
 pub fn serve_between<R: Read, W: Write, T: UseTable, O: RecallOrder>(
     input: &mut R,
@@ -50,32 +77,24 @@ pub fn serve_between<R: Read, W: Write, T: UseTable, O: RecallOrder>(
     console: &mut Console<T, O>,
     alloc: Global,
 ) -> io::Result<()>
-    ensures { OnOk result (Serves T.meaning O.meaning console.old
+    ensures served { OnOk result (Serves T.meaning O.meaning console.old console.new
         (R.remaining input.old) (W.contents output.old) (W.contents output.new)) }
+    ensures failed { OnErr result (BreaksOff T.meaning O.meaning console.old console.new
+        (R.remaining input.old) (W.contents output.old) (W.contents output.new)) }
+    ensures policy { policy_of console.new ≡ policy_of console.old }
 {
     let mut block = [0; BLOCK];
     let mut answers = Vec::new(alloc);
     for _ in 0..u64::MAX {
         let count = input.read(&mut block)?;
-        if count == 0 {
+        console.take_all(&block[..count], &mut answers)?;
+        write_text(output, answers.as_slice())?;
+        answers.clear();
+        if count == 0 || console.has_stopped() {
             let mut printed = TextBuffer::new();
             console.finish(&mut printed);
-            return output.write_all(printed.text());
-        }
-        console.take_all(&block[..count], &mut answers)?;
-        output.write_all(answers.as_slice())?;
-        answers.clear();
-        if console.has_stopped() {
-            return Ok(());
+            return write_text(output, printed.text());
         }
     }
     Err(io::Error::from(io::ErrorKind::TimedOut))
-}
-
-/// Answers the lines of standard input on standard output.
-pub fn serve<T: UseTable, O: RecallOrder>(
-    rt: &HostRuntime,
-    console: &mut Console<T, O>,
-) -> io::Result<()> {
-    serve_between(&mut rt.stdin(), &mut rt.stdout(), console, rt.alloc())
 }

@@ -5,7 +5,7 @@ use Rattle.session.proofs.serving.transcript.Goals as goal
 
 pub loop-piece-init : goal.loop-piece-init
 loop-piece-init g c =
-    read_nothing g.T.UseTable.meaning g.O.RecallOrder.meaning c.new-console.result (all_bytes (map (λ p. p.now) c.args.pieces.now)) (vec_items c.new-out.result)
+    read_nothing g.T.UseTable.meaning g.O.RecallOrder.meaning c.new-console.result (all_bytes (map (λ p. p.now) c.args.pieces.now)) (vec_items c.new-out.result) c.new-console.result.history
 
 pub loop-piece-preserved : goal.loop-piece-preserved
 loop-piece-preserved g c =
@@ -21,4 +21,4 @@ returns g c =
     let so_far = vec_items c.loop-piece.out in
     let starts = c.new-console.ensures in
     let grows = c.in_ok-extend_from_slice.ensures.items ∙ ap (λ (ys : List ℕ). so_far ++ ys) c.text.ensures.shown in
-    whole_input g.T.UseTable.meaning g.O.RecallOrder.meaning c.args.table c.args.order c.args.detection c.new-console.result c.loop-piece.console (all_bytes (map (λ p. p.now) pieces)) (all_bytes (map (λ p. p.now) (drop i pieces))) (vec_items c.new-out.result) so_far c.finish.new.printed (vec_items c.extend_from_slice.new.self) starts.starts starts.table starts.order c.new-out.ensures.items c.loop-piece.invariant (no_piece (λ p. p.now) pieces i (omega arith)) c.finish.ensures.read grows
+    whole_input g.T.UseTable.meaning g.O.RecallOrder.meaning c.args.table c.args.order c.args.detection c.new-console.result c.loop-piece.console c.finish.new.self (all_bytes (map (λ p. p.now) pieces)) (all_bytes (map (λ p. p.now) (drop i pieces))) (vec_items c.new-out.result) so_far c.finish.new.printed (vec_items c.extend_from_slice.new.self) starts.starts starts.table starts.order c.new-out.ensures.items c.loop-piece.invariant (no_piece (λ p. p.now) pieces i (omega arith)) c.finish.ensures.read grows

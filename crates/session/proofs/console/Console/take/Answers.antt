@@ -1,7 +1,19 @@
-use Rattle.std.proofs.Common.{ℕ, List, ◌++◌, take, sym, ap, ◌∙◌, arith}
+use Rattle.std.proofs.Common.{ℕ, List, ◌++◌, take, sym, ap, ◌∙◌, subst, arith}
 use Rattle.std.proofs.lemmas.List.{take_all}
+use Rattle.session.specs.Inputs.{IsUnbroken}
 use Rattle.session.proofs.Gathering.{Gathered, unbroken_before, all_of_line, line_ends, read_gathered, line_read}
+use Rattle.session.proofs.Histories.{after_input}
 use Rattle.session.proofs.console.Console.take.Goals as goal
+
+pub gather-requires : goal.gather-requires
+gather-requires g c =
+    let piece = c.args.piece.now in
+    let n = c.before_line_end-count.result in
+    let all = take_all n piece (omega arith) in
+    subst IsUnbroken all (rw c.before_line_end-count.ensures (unbroken_before piece))
+
+pub end_line-requires : goal.end_line-requires
+end_line-requires g c = rw c.before_line_end-count.ensures (unbroken_before c.args.piece.now)
 
 pub returns-then-count-piece-clause-taken : goal.returns-then-count-piece-clause-taken
 returns-then-count-piece-clause-taken g c = all_of_line c.args.piece.now c.before_line_end-count.result c.before_line_end-count.ensures c.if-count-piece.true
@@ -9,6 +21,8 @@ returns-then-count-piece-clause-taken g c = all_of_line c.args.piece.now c.befor
 pub returns-then-count-piece-clause-read : goal.returns-then-count-piece-clause-read
 returns-then-count-piece-clause-read g c =
     let first = c.args.self.now in
+    let m = g.T.UseTable.meaning in
+    let p = g.O.RecallOrder.meaning in
     let piece = c.args.piece.now in
     let n = c.before_line_end-count.result in
     let all = take_all n piece (omega arith) in
@@ -18,17 +32,19 @@ returns-then-count-piece-clause-read g c =
       kept = c.gather.ensures.kept ∙ ap (λ (xs : List ℕ). take 33 (first.line ++ xs)) (sym all);
       unbroken = rw c.before_line_end-count.ensures (unbroken_before piece);
     } in
-    λ detection input before h. read_gathered (g.T.UseTable.meaning first.book.policy.table) (g.O.RecallOrder.meaning first.book.policy.order) detection input before c.clear.new.self first c.gather.new.self piece n gathered c.clear.ensures h
+    after_input m p first _ first.history (λ detection input before h. read_gathered (m first.book.policy.table) (p first.book.policy.order) detection input before c.clear.new.self first c.gather.new.self piece n gathered c.clear.ensures h)
 
 pub returns : goal.returns
 returns g c =
     let first = c.args.self.now in
+    let m = g.T.UseTable.meaning in
+    let p = g.O.RecallOrder.meaning in
     let piece = c.args.piece.now in
     let n = c.before_line_end-count.result in
     let ends = line_ends piece n c.before_line_end-count.ensures c.if-count-piece.false in
     record {
       taken = ends.1;
-      read = λ detection input before h. line_read g.T.UseTable.meaning g.O.RecallOrder.meaning detection input before c.end_line.new.printed first c.end_line.new.self piece n (rw c.before_line_end-count.ensures (unbroken_before piece)) ends.0 ends.2 c.end_line.ensures.done h;
+      read = after_input m p first _ first.history (λ detection input before h. line_read m p c.end_line.new.printed detection input before first c.end_line.new.self piece n (rw c.before_line_end-count.ensures (unbroken_before piece)) ends.0 ends.2 c.end_line.ensures.done h);
       policy = c.end_line.ensures.policy;
     }
 

@@ -6,7 +6,7 @@ use Rattle.session.proofs.Pieces.{line_inside, line_some, read_nothing, read_mor
 use Rattle.session.proofs.console.Console.take_all.Goals as goal
 
 pub loop-rest-init : goal.loop-rest-init
-loop-rest-init g c = read_nothing g.T.UseTable.meaning g.O.RecallOrder.meaning c.args.self.now c.args.piece.now (vec_items c.args.out.now)
+loop-rest-init g c = read_nothing g.T.UseTable.meaning g.O.RecallOrder.meaning c.args.self.now c.args.piece.now (vec_items c.args.out.now) c.args.self.now.history
 
 pub returns-in_err-extend_from_slice : goal.returns-in_err-extend_from_slice
 returns-in_err-extend_from_slice g c =
