@@ -647,6 +647,13 @@ asked_at_the_limits =
     ∷ (waited_for two_uses last_numbers 62 63, true)
     ∷ (waited_for two_uses last_numbers 63 62, false) ∷ [])
 
+-- how the last dispatches stand
+abbrev pub standing_at_the_limits : Example
+standing_at_the_limits =
+    stood
+    ((condition_asked two_uses last_numbers 63, Ok (Running, None))
+    ∷ (condition_asked two_uses last_numbers 62, Ok (Waiting, Some 1023)) ∷ [])
+
 -- the table of examples
 abbrev pub examples : List Example
 examples =
@@ -662,4 +669,5 @@ examples =
     ∷ span_codes ∷ conflicts_at_the_end ∷ covers_at_the_end ∷ printed_report
     ∷ full_book ∷ report_of_a_sweep ∷ known_uses ∷ claims_in_the_queue
     ∷ open_or_free ∷ others_stay ∷ weights_stay
-    ∷ first_blocker ∷ three_recalls ∷ asked_at_the_limits ∷ []
+    ∷ first_blocker ∷ three_recalls ∷ asked_at_the_limits
+    ∷ standing_at_the_limits ∷ []
