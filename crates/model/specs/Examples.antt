@@ -8,7 +8,7 @@ use Rattle.uses.specs.FiveUses.{five_uses, IS, IX, S, SIX, X}
 use Rattle.uses.specs.Spans.{spans}
 use Rattle.orders.specs.Orders.{newest, lightest, fewest, pair}
 use Rattle.model.specs.Claims.{waiting_claims, held_count, claim_waits}
-use Rattle.model.specs.State.{State, new, is_free}
+use Rattle.model.specs.State.{State, new, is_open, is_free}
 use Rattle.model.specs.Recalling.{Order}
 use Rattle.model.specs.Calls.{ModelAnswer, claim_of, step, report, report_of, answer_ok, answer_granted, answer_covered, answer_waits, answer_recalled, answer_refused}
 use Rattle.model.specs.Report.{report_text}
@@ -584,10 +584,12 @@ claims_in_the_queue =
     ∷ (held_count two_uses queue.claims 2 == 0, true)
     ∷ (held_count two_uses queue.claims 5 == 2, true) ∷ [])
 
--- who is free beside the queue: neither 1, which is open, nor 4, which was recalled
-abbrev pub free_beside_the_queue : Example
-free_beside_the_queue =
-    asked ((is_free queue 6, true) ∷ (is_free queue 1, false) ∷ (is_free queue 4, false) ∷ [])
+-- who is open and who is free: 1 is open, 4 was recalled and is neither, 6 is free
+abbrev pub open_or_free : Example
+open_or_free =
+    asked
+    ((is_open queue 1, true) ∷ (is_open queue 4, false) ∷ (is_open queue 6, false)
+    ∷ (is_free queue 1, false) ∷ (is_free queue 4, false) ∷ (is_free queue 6, true) ∷ [])
 
 -- a call leaves alone what others have: 1 and 3 keep their claims, and 2 stays recalled
 abbrev pub others_stay : Example
@@ -645,6 +647,13 @@ asked_at_the_limits =
     ∷ (waited_for two_uses last_numbers 62 63, true)
     ∷ (waited_for two_uses last_numbers 63 62, false) ∷ [])
 
+-- how the last dispatches stand
+abbrev pub standing_at_the_limits : Example
+standing_at_the_limits =
+    stood
+    ((condition_asked two_uses last_numbers 63, Ok (Running, None))
+    ∷ (condition_asked two_uses last_numbers 62, Ok (Waiting, Some 1023)) ∷ [])
+
 -- the table of examples
 abbrev pub examples : List Example
 examples =
@@ -659,5 +668,6 @@ examples =
     ∷ behind_a_cycle ∷ recalled_after_another ∷ closed_and_again ∷ holding_in_the_queue
     ∷ span_codes ∷ conflicts_at_the_end ∷ covers_at_the_end ∷ printed_report
     ∷ full_book ∷ report_of_a_sweep ∷ known_uses ∷ claims_in_the_queue
-    ∷ free_beside_the_queue ∷ others_stay ∷ weights_stay
-    ∷ first_blocker ∷ three_recalls ∷ asked_at_the_limits ∷ []
+    ∷ open_or_free ∷ others_stay ∷ weights_stay
+    ∷ first_blocker ∷ three_recalls ∷ asked_at_the_limits
+    ∷ standing_at_the_limits ∷ []
