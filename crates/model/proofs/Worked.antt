@@ -15,4 +15,4 @@ full_right = (refl, (refl, (refl, (refl, tt))))
 pub all_right : AllByRecursion IsRight examples
 unfolding step closure on_cycles recall_result_within recall_result some_field each_field digits
 all_right =
-    (search, (search, (search, (search, (search, (search, (search, (search, (search, (search, (search, (search, (search, (search, (search, (search, (search, (search, (search, (search, (search, (search, (search, (search, (search, (search, (search, (search, (search, (search, (search, (search, (search, (search, (search, (search, (search, (search, (search, (search, (search, (search, (search, (search, (full_right, (search, (search, (search, (search, (search, (search, (search, (search, (search, (search, tt)))))))))))))))))))))))))))))))))))))))))))))))))))))))
+    (search, (search, (search, (search, (search, (search, (search, (search, (search, (search, (search, (search, (search, (search, (search, (search, (search, (search, (search, (search, (search, (search, (search, (search, (search, (search, (search, (search, (search, (search, (search, (search, (search, (search, (search, (search, (search, (search, (search, (search, (search, (search, (search, (search, (full_right, (search, (search, (search, (search, (search, (search, (search, (search, (search, (search, (search, tt))))))))))))))))))))))))))))))))))))))))))))))))))))))))

@@ -654,6 +654,16 @@ standing_at_the_limits =
     ((condition_asked two_uses last_numbers 63, Ok (Running, None))
     ∷ (condition_asked two_uses last_numbers 62, Ok (Waiting, Some 1023)) ∷ [])
 
+-- a claim that is covered is not entered: 1 holds one claim and 2 holds two
+abbrev pub covered_claims_hold_nothing : Example
+covered_claims_hold_nothing =
+    played Continuous two_uses fewest
+    (Open 1 5 ⇒ answer_ok ∷ Open 2 5 ⇒ answer_ok
+    ∷ Claim 1 10 move ⇒ answer_granted ∷ Claim 1 10 look ⇒ answer_covered
+    ∷ Claim 1 10 look ⇒ answer_covered ∷ Claim 2 11 move ⇒ answer_granted
+    ∷ Claim 2 12 move ⇒ answer_granted ∷ Claim 1 11 move ⇒ answer_waits
+    ∷ recalling (Claim 2 10 move ⇒ answer_granted) (1 at 11 ∷ []) ∷ [])
+
 -- the table of examples
 abbrev pub examples : List Example
 examples =
@@ -670,4 +680,4 @@ examples =
     ∷ full_book ∷ report_of_a_sweep ∷ known_uses ∷ claims_in_the_queue
     ∷ open_or_free ∷ others_stay ∷ weights_stay
     ∷ first_blocker ∷ three_recalls ∷ asked_at_the_limits
-    ∷ standing_at_the_limits ∷ []
+    ∷ standing_at_the_limits ∷ covered_claims_hold_nothing ∷ []
