@@ -1,5 +1,5 @@
 // The book.
-ghost use Rattle.std.specs.Prelude.{◌≡◌, [], ◌∷◌, length, ◌↔◌, IsTrue};
+ghost use Rattle.std.specs.Prelude.{◌≡◌, [], ◌∷◌, length};
 ghost use Rattle.dispatch_set.specs.DispatchSet.{contains};
 ghost use Rattle.model.specs.Runs.{HasRun};
 ghost use Rattle.book.specs.Tables.{state};
@@ -222,8 +222,8 @@ impl<T: UseTable, O: RecallOrder> Book<T, O> {
         Ok(Answer::Ok)
     }
 
-    /// Carries out any call, by its own checks. A run of calls has led to the book, and each that has
-    /// goes on lawfully: with this call and this outcome added it keeps exclusion, progress and
+    /// Carries out any call, by its own checks. Some run of calls has led to the book, and each that
+    /// has goes on lawfully: with this call and this outcome added it keeps exclusion, progress and
     /// recall.
     pub fn carry_out(&mut self, asked: Call, report: &mut Report) -> Result<Answer, Refusal>
         ensures done { CarriesOut T.meaning O.meaning self.old asked result report.new self.new }

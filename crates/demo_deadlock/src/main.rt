@@ -20,8 +20,8 @@ const WEIGHT_A: u32 = 5;
 
 const DOCK_A: u32 = 10;
 
-// Station B's dispatch, its weight, and its two docks. It weighs more and holds more than A's, so that
-// neither lightest nor fewest would recall it.
+// Station B's dispatch, its weight, and its two docks. It weighs more and holds more than A's, so
+// that neither lightest nor fewest would recall it.
 const B: u32 = 2;
 
 const WEIGHT_B: u32 = 8;

@@ -12,9 +12,9 @@ use Rattle.model.specs.Claims.{waits_for}
 use Rattle.model.specs.Recalling.{on_cycles, recall_result_within, recall_result}
 use Rattle.model.specs.Calls.{claim_of, step}
 use Rattle.model.specs.Runs.{start, next, at, Grants, by_grant, by_cover, by_wake, HasGrant, just_now, before}
-use Rattle.model.specs.Law.{Exclusion, IsRunning, WaitsEnd, LawWhere, Law}
+use Rattle.model.specs.Law.{Exclusion, IsRunning, WaitsEnd, LawOf, Law}
 use Rattle.model.specs.Examples.{look, move}
-use Rattle.model.specs.LawExamples.{LawExamplesRight, two_docks_run, one_waits_run, two_stations_run, looked_at_run, two_wait_run, covered_run, one_sided, one_sided_run, deadlock, queue_of, behind_nobody, entry, recalling, changed_after, MayNotLeave, MayNotRecall, NoTimeToRecall}
+use Rattle.model.specs.LawExamples.{LawExamplesRight, two_docks_run, one_waits_run, two_stations_run, looked_at_run, two_wait_run, covered_run, one_sided, one_sided_run, deadlock, queue_of, behind_nobody, entry, outcome_recalling, changed_after, MayNotLeave, MayNotRecall, BreaksRecallWhen}
 use Rattle.model.proofs.LawHolds.{law}
 use Rattle.model.proofs.Graphs.{first_step}
 use Rattle.model.proofs.Grants.{run_invariant}
@@ -116,7 +116,7 @@ no_cycle : ¬ HasCycle (waits_for two_uses (at two_uses newest (one_waits_run Co
 unfolding step closure on_cycles recall_result_within recall_result
 no_cycle cycle = (run_invariant two_uses laws newest order (one_waits_run Continuous)).no_cycle refl cycle.0 cycle.1
 
-waits_alone : NoTimeToRecall (two_docks_run Continuous) (Claim 1 11 move) (1 ∷ [])
+waits_alone : BreaksRecallWhen (two_docks_run Continuous) (Claim 1 11 move) (1 ∷ [])
 unfolding step closure on_cycles recall_result_within recall_result
 waits_alone h = no_cycle ((h.by_claim (refl, tt)).0 (λ e. cc))
 
@@ -129,7 +129,7 @@ closes_cycle : MayNotRecall (one_waits_run Continuous) (Claim 2 10 move) []
 unfolding step closure on_cycles recall_result_within recall_result
 closes_cycle h = (h.recall_when.1.by_claim (refl, tt)).1 (2, around_two) refl
 
-sweeps_none : NoTimeToRecall (one_waits_run Continuous) Sweep (1 ∷ [])
+sweeps_none : BreaksRecallWhen (one_waits_run Continuous) Sweep (1 ∷ [])
 unfolding step closure on_cycles recall_result_within recall_result
 sweeps_none h = no_cycle ((h.by_sweep refl).0 (λ e. cc))
 
@@ -207,8 +207,8 @@ unfolding step closure on_cycles recall_result_within recall_result
 one_more h = (run_invariant two_uses laws newest order (two_stations_run Continuous)).no_cycle refl 1 (h.recall_whom.1 (entry 2 ∷ []) [] (entry 1) refl).on_cycle
 
 ever_since :
-    ¬ LawWhere two_uses newest
-    (changed_after (one_waits_run Continuous) (recalling (one_waits_run Continuous) (Claim 2 10 move) (1 ∷ [])))
+    ¬ LawOf two_uses newest
+    (changed_after (one_waits_run Continuous) (outcome_recalling (one_waits_run Continuous) (Claim 2 10 move) (1 ∷ [])))
     (next (two_stations_run Continuous) (Open 3 5))
 unfolding step closure on_cycles recall_result_within recall_result
 ever_since h = false≢true (sym ((h.recall_whom.0.1 [] [] (entry 1) refl).none_before 2 around_two))

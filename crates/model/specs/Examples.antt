@@ -486,7 +486,7 @@ closed_and_again =
     ∷ Acknowledge 1 ⇒ answer_refused 10 ∷ Open 1 5 ⇒ answer_ok
     ∷ Claim 1 10 move ⇒ answer_granted ∷ [])
 
--- who holds which section in the queue, and who waits for nobody there
+-- who holds which section in the queue, and who does not wait for whom
 abbrev pub holding_in_the_queue : Example
 holding_in_the_queue =
     asked

@@ -113,8 +113,9 @@ module _ (u : Relations) (o : Order) where
       (Run → Call → Outcome) → (State → Call → Outcome → Type 0) → Run → Type 0
   EachOutcome gives P = EachCall (λ r c. P (at u o r) c (gives r c))
 
-  -- the law over runs, where `gives r c` is what call c gives after run r
-  pub record LawWhere (gives : Run → Call → Outcome) (r : Run) : Type 0 where
+  -- the law over runs, where `gives r c` is what call c is said to give after run r; the states
+  -- between the calls, and what was granted, are the model's
+  pub record LawOf (gives : Run → Call → Outcome) (r : Run) : Type 0 where
     -- exclusion: two open dispatches never hold grants of one section whose uses conflict
     pub exclusion : EachMoment (Exclusion u o) r
     -- progress: waits end
@@ -126,4 +127,4 @@ module _ (u : Relations) (o : Order) where
 
   -- the law over runs: of what every call gives
   abbrev pub Law : Run → Type 0
-  Law = LawWhere (outcome u o)
+  Law = LawOf (outcome u o)

@@ -8,7 +8,7 @@ use Rattle.orders.specs.Orders.{newest}
 use Rattle.model.specs.State.{State, new}
 use Rattle.model.specs.Calls.{Outcome, claim_of}
 use Rattle.model.specs.Runs.{Run, start, next, at, outcome, HasGrant}
-use Rattle.model.specs.Law.{Exclusion, IsRunning, WaitsEnd, RecallWhen, LawWhere, Law}
+use Rattle.model.specs.Law.{Exclusion, IsRunning, WaitsEnd, RecallWhen, LawOf, Law}
 use Rattle.model.specs.Examples.{look, move}
 use Rattle.model.specs.declared.call.Call.{Call}
 use Rattle.model.specs.declared.call.Call.TheVariants.{Open, Claim, Close, Withdraw, Acknowledge, Sweep}
@@ -77,11 +77,11 @@ changed_after r x before c =
 
 -- the law is broken where the call after the run gives x
 abbrev pub IsBroken : Run → Call → Outcome → Type 0
-IsBroken r c x = ¬ LawWhere two_uses newest (changed_after r x) (next r c)
+IsBroken r c x = ¬ LawOf two_uses newest (changed_after r x) (next r c)
 
 -- what the call after the run gives, but that it leaves the state
-abbrev pub leaving : Run → Call → State → Outcome
-leaving r c s = record (outcome two_uses newest r c) { state = s }
+abbrev pub outcome_leaving : Run → Call → State → Outcome
+outcome_leaving r c s = record (outcome two_uses newest r c) { state = s }
 
 -- each of the two stations waits for the other
 abbrev pub deadlock : State
@@ -103,7 +103,7 @@ behind_nobody = record (new Continuous) {
 
 -- the law is broken where the call after the run leaves the state
 abbrev pub MayNotLeave : Run → Call → State → Type 0
-MayNotLeave r c s = IsBroken r c (leaving r c s)
+MayNotLeave r c s = IsBroken r c (outcome_leaving r c s)
 
 -- where waits do not end, and after which calls they have to
 pub record WaitsRight : Type 0 where
@@ -127,16 +127,16 @@ abbrev pub entry : ℕ → ReportEntry
 entry d = record { dispatch = d; section = 10 }
 
 -- what the call after the run gives, but that it recalls the dispatches
-abbrev pub recalling : Run → Call → List ℕ → Outcome
-recalling r c ds = record (outcome two_uses newest r c) { recalls = map entry ds }
+abbrev pub outcome_recalling : Run → Call → List ℕ → Outcome
+outcome_recalling r c ds = record (outcome two_uses newest r c) { recalls = map entry ds }
 
 -- the law is broken where the call after the run recalls the dispatches
 abbrev pub MayNotRecall : Run → Call → List ℕ → Type 0
-MayNotRecall r c ds = IsBroken r c (recalling r c ds)
+MayNotRecall r c ds = IsBroken r c (outcome_recalling r c ds)
 
 -- the rule of when to recall is broken where the call after the run recalls the dispatches
-abbrev pub NoTimeToRecall : Run → Call → List ℕ → Type 0
-NoTimeToRecall r c ds = ¬ RecallWhen two_uses (at two_uses newest r) c (recalling r c ds)
+abbrev pub BreaksRecallWhen : Run → Call → List ℕ → Type 0
+BreaksRecallWhen r c ds = ¬ RecallWhen two_uses (at two_uses newest r) c (outcome_recalling r c ds)
 
 -- 1 moves on 10, 2 and 3 look at 11, and 1 waits to move there, for both
 abbrev pub looked_at_run : Run
@@ -148,14 +148,14 @@ looked_at_run =
 abbrev pub two_wait_run : Run
 two_wait_run = next (next (one_waits_run Continuous) (Open 3 5)) (Claim 3 11 look)
 
--- where recalling is broken
+-- where the rule of when, or of whom, to recall is broken
 pub record RecallsRight : Type 0 where
   -- a claim that only waits may not recall the claimant
-  pub waits_alone : NoTimeToRecall (two_docks_run Continuous) (Claim 1 11 move) (1 ∷ [])
+  pub waits_alone : BreaksRecallWhen (two_docks_run Continuous) (Claim 1 11 move) (1 ∷ [])
   -- a claim that closes a cycle has to recall somebody
   pub closes_cycle : MayNotRecall (one_waits_run Continuous) (Claim 2 10 move) []
   -- a sweep may not recall anybody where no cycle stands
-  pub sweeps_none : NoTimeToRecall (one_waits_run Continuous) Sweep (1 ∷ [])
+  pub sweeps_none : BreaksRecallWhen (one_waits_run Continuous) Sweep (1 ∷ [])
   -- a sweep has to recall somebody where one stands
   pub sweeps_cycle : MayNotRecall (two_stations_run Periodic) Sweep []
   -- a claim to a periodic book that closes a cycle leaves it to a sweep
@@ -177,9 +177,9 @@ pub record RecallsRight : Type 0 where
   pub one_more : MayNotRecall (one_waits_run Continuous) (Claim 2 10 move) (2 ∷ 1 ∷ [])
   -- and the law stays broken when a call follows
   pub ever_since :
-      ¬ LawWhere two_uses newest
-      (changed_after
-      (one_waits_run Continuous) (recalling (one_waits_run Continuous) (Claim 2 10 move) (1 ∷ [])))
+      ¬ LawOf two_uses newest
+      (changed_after (one_waits_run Continuous)
+      (outcome_recalling (one_waits_run Continuous) (Claim 2 10 move) (1 ∷ [])))
       (next (two_stations_run Continuous) (Open 3 5))
 
 -- the examples of the law are right

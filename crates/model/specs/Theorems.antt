@@ -11,7 +11,7 @@ use Rattle.model.specs.Calls.{Outcome, checks, entry_checks, refusal, step, answ
 use Rattle.model.specs.Changes.{IsExactChange}
 use Rattle.model.specs.Invariant.{WellFormed, Invariant}
 use Rattle.model.specs.Firsts.{IsFirst}
-use Rattle.model.specs.Runs.{Run}
+use Rattle.model.specs.Runs.{Run, HasRun}
 use Rattle.model.specs.Law.{Law}
 use Rattle.model.specs.Examples.{examples, IsRight}
 use Rattle.model.specs.declared.call.Call.{Call}
@@ -34,6 +34,12 @@ InvariantKept =
     (u : Relations)
     → ((detection : Detection) → Invariant u (new detection))
     × (UseLaws u → (o : Order) → OrderLaws o → CallsKeepInvariant u o)
+
+-- the invariant holds of every state to which a run leads
+abbrev pub InvariantHolds : Type 0
+InvariantHolds =
+    (u : Relations) → UseLaws u → (o : Order) → OrderLaws o
+    → (s : State) → HasRun u o s → Invariant u s
 
 -- the test for being on a cycle agrees with the inductive definition
 abbrev pub CycleTestExact : Type 0
@@ -92,8 +98,8 @@ RefusedWhenFull =
     ↔ ((refusal (entry_checks u s d section mode) ≡ None)
     × (length s.claims ≡ CLAIMS) × (is_covered u s.claims d section mode ≡ false)))
 
--- a claim is answered covered exactly where it passes all checks but the last and some claim covers
--- it, however many claims stand
+-- a claim is answered covered exactly where it passes all checks but the last and a claim covers it,
+-- however many stand
 abbrev pub CoveredExact : Type 0
 CoveredExact =
     (u : Relations) (o : Order) (s : State) (d section mode : ℕ)
@@ -119,8 +125,8 @@ NoNewStep =
     (u : Relations) (cs : List Claim) (c : Claim) → list_any (λ b. blocks u b c) cs ≡ false
     → (d e : ℕ) → waits_for u (cs ++ c ∷ []) d e ≡ waits_for u cs d e
 
--- a claim of a dispatch that runs, which nothing blocks, closes no cycle: whoever is on one once it
--- is entered was on one before
+-- a claim of a dispatch that runs, which nothing blocks, closes no cycle: whoever is on one once
+-- it is entered was on one before
 abbrev pub NoNewCycle : Type 0
 NoNewCycle =
     (u : Relations) (cs : List Claim) (c : Claim) → dispatch_waits u cs c.dispatch ≡ false

@@ -1,6 +1,7 @@
 // The theorems. Each function does nothing: its contract is what is proved, for every use table and
 // every recall order that keeps its laws.
-ghost use Rattle.model.specs.Theorems.{LimitsRight, LawOverRuns, InvariantKept, CycleTestExact};
+ghost use Rattle.model.specs.Theorems.{LimitsRight, LawOverRuns, InvariantKept};
+ghost use Rattle.model.specs.Theorems.{InvariantHolds, CycleTestExact};
 ghost use Rattle.model.specs.Theorems.{StepsLeadToOpen, FirstExact, ReportFits, RefusedByFirst};
 ghost use Rattle.model.specs.Theorems.{RefusedChangesNothing, RefusedWhenFull, CoveredExact};
 ghost use Rattle.model.specs.Theorems.{ChangesExact, NoNewStep, NoNewCycle, ExamplesRight};
@@ -11,9 +12,10 @@ pub fn law_over_runs()
     ensures { LawOverRuns }
 {}
 
-/// The invariant holds of a new book, and every call keeps it.
+/// The invariant holds of a new book, and every call keeps it; so it holds wherever a run leads.
 pub fn invariant_is_kept()
-    ensures { InvariantKept }
+    ensures kept { InvariantKept }
+    ensures holds { InvariantHolds }
 {}
 
 /// The computed test for being on a cycle agrees with the inductive definition.
@@ -32,8 +34,8 @@ pub fn report_fits()
     ensures { ReportFits }
 {}
 
-/// A call is answered by a refusal exactly when a check applies, by the first that does; and then it
-/// changes nothing, recalls nobody and wakes nobody.
+/// A call is answered by a refusal exactly when a check applies, by the first that does; and then
+/// it changes nothing, recalls nobody and wakes nobody.
 pub fn refusals_are_exact()
     ensures first { RefusedByFirst }
     ensures unchanged { RefusedChangesNothing }
@@ -66,7 +68,8 @@ pub fn unblocked_claim_adds_no_step()
     ensures { NoNewStep }
 {}
 
-/// A claim that nothing blocks closes no cycle. A book grants it without a search, for this reason.
+/// A claim of a dispatch that runs, which nothing blocks, closes no cycle. For this reason a book
+/// grants it without a search.
 pub fn unblocked_claim_closes_no_cycle()
     ensures { NoNewCycle }
 {}

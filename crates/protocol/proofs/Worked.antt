@@ -89,4 +89,4 @@ unfolding printed digits
 all_printed = search
 
 pub all_right : ExamplesRight
-all_right = record { correct = all_correct; wrong = all_wrong; printing = all_printed; faulting = search }
+all_right = record { correct = all_correct; wrong = all_wrong; printing = all_printed; fault_rows = search }

@@ -154,4 +154,4 @@ pub record ExamplesRight : Type 0 where
   pub correct : AllByRecursion IsRead correct_lines
   pub wrong : AllByRecursion IsRead wrong_lines
   pub printing : AllByRecursion IsPrinted printings
-  pub faulting : AllByRecursion IsFaultRow faults
+  pub fault_rows : AllByRecursion IsFaultRow faults

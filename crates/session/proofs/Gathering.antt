@@ -13,7 +13,7 @@ use Rattle.book.specs.Tables.{state}
 use Rattle.book.specs.declared.book.Book.{Book}
 use Rattle.session.specs.Inputs.{Lines, more, IsUnbroken, Cut, with_rest, line_length}
 use Rattle.session.specs.Transcript.{AnswersLines}
-use Rattle.session.specs.History.{position, HasAnswered, HasRead, HasHistory}
+use Rattle.session.specs.History.{position_of_parts, HasAnswered, HasRead, HasHistory}
 use Rattle.session.specs.Stands.{position_of, StandsAfter, AnswersLine, EndsLine, EndsLines, Finishes}
 use Rattle.session.specs.declared.console.Console.{Console}
 use Rattle.session.proofs.Cutting.{cut_more, cut_end}
@@ -100,7 +100,7 @@ module _ {T O : Type 0} {tm om : _} (m : T → Relations) (p : O → Order) (tex
 
   -- a line whose bytes were gathered was answered, where the book is the same and no other line had begun
   pub ends_gathered : (bytes line : List ℕ) (now next : Console T O tm om) (mid : Book T O tm om) (count : ℕ) (anew : List ℕ) → line ≡ take 33 (now.line ++ bytes) → mid ≡ now.book → count ≡ now.answered → anew ≡ []
-      → ((detection : Detection) (ended : Lines) (whole before : List ℕ) → take 33 line ≡ take 33 whole → HasAnswered (m mid.policy.table) (p mid.policy.order) detection ended [] before (position (state mid.tables) count anew) → HasAnswered (m mid.policy.table) (p mid.policy.order) detection (more ended whole) [] (before ++ text) (position_of next))
+      → ((detection : Detection) (ended : Lines) (whole before : List ℕ) → take 33 line ≡ take 33 whole → HasAnswered (m mid.policy.table) (p mid.policy.order) detection ended [] before (position_of_parts (state mid.tables) count anew) → HasAnswered (m mid.policy.table) (p mid.policy.order) detection (more ended whole) [] (before ++ text) (position_of next))
       → EndsLine m p now next bytes text
   ends_gathered bytes line now next mid count anew is same counts none answers detection ended rest before h =
       here detection ended (rest ++ bytes) before first (record {
@@ -112,8 +112,8 @@ module _ {T O : Type 0} {tm om : _} (m : T → Relations) (p : O → Order) (tex
       first : take 33 line ≡ take 33 (rest ++ bytes)
       first = ap (λ (xs : List ℕ). take 33 xs) (is ∙ kept_more now.line rest bytes h.kept) ∙ take_again 33 (rest ++ bytes)
 
-      here : (detection : Detection) (ended : Lines) (whole before : List ℕ) → take 33 line ≡ take 33 whole → HasAnswered (m now.book.policy.table) (p now.book.policy.order) detection ended [] before (position (state mid.tables) count anew) → HasAnswered (m now.book.policy.table) (p now.book.policy.order) detection (more ended whole) [] (before ++ text) (position_of next)
-      here = subst (λ (k : Book T O tm om). (detection : Detection) (ended : Lines) (whole before : List ℕ) → take 33 line ≡ take 33 whole → HasAnswered (m k.policy.table) (p k.policy.order) detection ended [] before (position (state mid.tables) count anew) → HasAnswered (m k.policy.table) (p k.policy.order) detection (more ended whole) [] (before ++ text) (position_of next)) same answers
+      here : (detection : Detection) (ended : Lines) (whole before : List ℕ) → take 33 line ≡ take 33 whole → HasAnswered (m now.book.policy.table) (p now.book.policy.order) detection ended [] before (position_of_parts (state mid.tables) count anew) → HasAnswered (m now.book.policy.table) (p now.book.policy.order) detection (more ended whole) [] (before ++ text) (position_of next)
+      here = subst (λ (k : Book T O tm om). (detection : Detection) (ended : Lines) (whole before : List ℕ) → take 33 line ≡ take 33 whole → HasAnswered (m k.policy.table) (p k.policy.order) detection ended [] before (position_of_parts (state mid.tables) count anew) → HasAnswered (m k.policy.table) (p k.policy.order) detection (more ended whole) [] (before ++ text) (position_of next)) same answers
 
   -- the line has ended: its bytes were read, and its answer was printed
   pub line_read : (detection : Detection) (input before : List ℕ) (first next : Console T O tm om) (piece : List ℕ) (n : ℕ) → IsUnbroken (take n piece) → n < length piece → get_or piece n 0 ≡ 10 → EndsLine m p first next (take n piece) text → StandsAfter m p first detection input before first → StandsAfter m p first detection (input ++ take (n + 1) piece) (before ++ text) next

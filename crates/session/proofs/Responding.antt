@@ -24,7 +24,7 @@ use Rattle.protocol.specs.declared.fault.Fault.{Fault}
 use Rattle.session.specs.Transcript.{ReadAs, too_many, in_time, Gives, faulty, carried, reply_fault}
 use Rattle.session.specs.Lawful as lawfully
 use Rattle.session.specs.Lawful.{GoesOn}
-use Rattle.session.specs.NumberedLine.{passed_up, Responds, by_fault, by_call, RunGoesOn, CarriesOutLine, KeepsLaw}
+use Rattle.session.specs.NumberedLine.{passed_up, Responds, by_fault, by_call, RunGoesOnByLine, CarriesOutLine, LineKeepsLaw}
 
 -- it is the reply that the book's answer is
 reply_passed_up : (a : Result Answer Refusal) → reply_to (passed_up a) ≡ answer (answer_of a)
@@ -82,7 +82,7 @@ module _ (u : Relations) (o : Order) (number : ℕ) (line : List ℕ) (s : State
   fault_responded f r reads none = subst (λ (x : Report). Responds u o number line s (Err f) x s) (sym none) (by_fault f reads)
 
   -- every run that has led to the state goes on with the line
-  pub run_goes_on : UseLaws u → OrderLaws o → (outcome : Result Answer Fault) (r : Report) (t : State) → Responds u o number line s outcome r t → (run : Run) → at u o run ≡ s → RunGoesOn u o number line t run
+  pub run_goes_on : UseLaws u → OrderLaws o → (outcome : Result Answer Fault) (r : Report) (t : State) → Responds u o number line s outcome r t → (run : Run) → at u o run ≡ s → RunGoesOnByLine u o number line t run
   run_goes_on laws lawful _ _ _ (by_fault f reads) run leads = record {
     longer = run;
     goes_on = lawfully.by_none f reads;
@@ -98,7 +98,7 @@ module _ (u : Relations) (o : Order) (number : ℕ) (line : List ℕ) (s : State
 
 module _ {T O : Type 0} {tm om : _} (uses : T → Relations) (laws : (x : T) → UseLaws (uses x)) (orders : O → Order) (lawful : (x : O) → OrderLaws (orders x)) (before after : Book T O tm om) where
   -- a line that was responded to was answered, and the law goes on
-  pub line_answered : (number : ℕ) (line : List ℕ) (outcome : Result Answer Fault) (r : Report) → HasRun (uses before.policy.table) (orders before.policy.order) (state_of before) → Responds (uses before.policy.table) (orders before.policy.order) number line (state_of before) outcome r (state_of after) → after.policy ≡ before.policy → CarriesOutLine uses orders before number line outcome r after × KeepsLaw uses orders before number line after
+  pub line_answered : (number : ℕ) (line : List ℕ) (outcome : Result Answer Fault) (r : Report) → HasRun (uses before.policy.table) (orders before.policy.order) (state_of before) → Responds (uses before.policy.table) (orders before.policy.order) number line (state_of before) outcome r (state_of after) → after.policy ≡ before.policy → CarriesOutLine uses orders before number line outcome r after × LineKeepsLaw uses orders before number line after
   line_answered number line outcome r history responds policy =
       let every = run_goes_on (uses before.policy.table) (orders before.policy.order) number line (state_of before) (laws before.policy.table) (lawful before.policy.order) outcome r (state_of after) responds in (
         record { responds = responds; policy = policy },

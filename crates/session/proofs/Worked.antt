@@ -27,7 +27,7 @@ use Rattle.session.specs.Transcript.{too_many, in_time, faulty, carried, Turn, i
 use Rattle.session.specs.Lawful as lawfully
 use Rattle.session.specs.Lawful.{GoesOn, RunOf}
 use Rattle.session.specs.NumberedLine.{Responds, by_fault, by_call}
-use Rattle.session.specs.History.{position, HasRead, HasFinished}
+use Rattle.session.specs.History.{position_of_parts, HasRead, HasFinished}
 use Rattle.session.specs.Stands.{WritesFront}
 use Rattle.session.specs.Examples.{input, text, lines, run, ExamplesRight}
 use Rattle.session.proofs.OneCut.{cut_once}
@@ -170,8 +170,11 @@ last_call = lawfully.by_call Sweep (in_time (omega arith) sweeps)
 no_last_call : ¬ GoesOn 1000000 (codes "S") (start Continuous) (next (start Continuous) Sweep)
 no_last_call (lawfully.by_call c (in_time below _)) = omega (arith, below)
 
-no_later_call : GoesOn 1000001 (codes "S") (start Continuous) (start Continuous)
-no_later_call = lawfully.by_none TooManyLines (too_many (omega arith))
+later_line : GoesOn 1000001 (codes "S") (start Continuous) (start Continuous)
+later_line = lawfully.by_none TooManyLines (too_many (omega arith))
+
+no_later_call : ¬ GoesOn 1000001 (codes "S") (start Continuous) (next (start Continuous) Sweep)
+no_later_call (lawfully.by_call c (in_time below _)) = omega (arith, below)
 
 unknown_use : Reading (codes "C 1 10 9") (Ok (Claim 1 10 9))
 unknown_use = reads_call spells_claim 67 (codes " 1 10 9") (1 ∷ 10 ∷ 9 ∷ []) refl (omega arith) refl (three_fields (codes "1 10 9") (codes "10 9") (codes "9") (omega arith) refl (omega arith) refl (omega arith) refl)
@@ -187,7 +190,7 @@ too_late = by_fault TooManyLines (too_many (omega arith))
 cut_begun : Cut (codes "S\nS") (more none (codes "S")) (codes "S")
 cut_begun = record { made = refl; lines_unbroken = (tt, refl); rest_unbroken = refl }
 
-line_begun : HasRead two_uses newest Continuous (codes "S\nS") (codes "1 ok\n") (position (new Continuous) 1 (codes "S"))
+line_begun : HasRead two_uses newest Continuous (codes "S\nS") (codes "1 ok\n") (position_of_parts (new Continuous) 1 (codes "S"))
 unfolding step closure on_cycles recall_result_within recall_result printed digits
 line_begun = record {
   ended = more none (codes "S");
@@ -196,13 +199,13 @@ line_begun = record {
   stands = record { answered = then_carried _ _ (omega arith) sweeps nothing; counted = refl; kept = refl };
 }
 
-line_forgotten : ¬ HasRead two_uses newest Continuous (codes "S\nS") (codes "1 ok\n") (position (new Continuous) 1 [])
+line_forgotten : ¬ HasRead two_uses newest Continuous (codes "S\nS") (codes "1 ok\n") (position_of_parts (new Continuous) 1 [])
 line_forgotten h =
     let same : h.rest ≡ codes "S" = (cut_once (codes "S\nS") h.ended (more none (codes "S")) h.rest (codes "S") h.cut cut_begun).1 in
     let kept : [] ≡ take 33 (codes "S") = h.stands.kept ∙ ap (λ (xs : List ℕ). take 33 xs) same in
     cc
 
-line_ended : HasFinished two_uses newest Continuous (codes "S\nS") (codes "1 ok\n2 ok\n") (position (new Continuous) 2 [])
+line_ended : HasFinished two_uses newest Continuous (codes "S\nS") (codes "1 ok\n2 ok\n") (position_of_parts (new Continuous) 2 [])
 unfolding step closure on_cycles recall_result_within recall_result printed digits
 line_ended =
     let answered : SoFar (more (more none (codes "S")) (codes "S")) (codes "1 ok\n2 ok\n") (new Continuous) = then_carried _ _ (omega arith) sweeps (then_carried _ _ (omega arith) sweeps nothing) in
@@ -235,6 +238,7 @@ examples_right = record {
   other_detection = other_detection;
   last_call = last_call;
   no_last_call = no_last_call;
+  later_line = later_line;
   no_later_call = no_later_call;
   refused = refused;
   too_late = too_late;

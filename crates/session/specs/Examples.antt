@@ -15,7 +15,7 @@ use Rattle.session.specs.Inputs.{Lines, none, more, joined_lines}
 use Rattle.session.specs.Transcript.{Turn, Transcript}
 use Rattle.session.specs.Lawful.{GoesOn, RunOf}
 use Rattle.session.specs.NumberedLine.{Responds}
-use Rattle.session.specs.History.{position, answered_of, HasRead, HasFinished}
+use Rattle.session.specs.History.{position_of_parts, answered_of, HasRead, HasFinished}
 use Rattle.session.specs.Stands.{WritesFront}
 
 -- two stations each claim the other's dock; then a refusal, a wrong form, an empty line, and a last
@@ -40,7 +40,7 @@ first_lines =
 abbrev pub lines : Lines
 lines = more (more (more first_lines (codes "E 01")) []) (codes "A 2")
 
--- the calls of the first seven lines: that of the two stations, and a close that is refused
+-- the calls of the first seven lines: those of the two stations, and a close that is refused
 abbrev pub first_run : Run
 first_run = next (two_stations_run Continuous) (Close 9)
 
@@ -76,7 +76,9 @@ pub record ExamplesRight : Type 0 where
       GoesOn 999999 (codes "S") (start Continuous) (next (start Continuous) Sweep)
   pub no_last_call :
       ¬ GoesOn 1000000 (codes "S") (start Continuous) (next (start Continuous) Sweep)
-  pub no_later_call : GoesOn 1000001 (codes "S") (start Continuous) (start Continuous)
+  pub later_line : GoesOn 1000001 (codes "S") (start Continuous) (start Continuous)
+  pub no_later_call :
+      ¬ GoesOn 1000001 (codes "S") (start Continuous) (next (start Continuous) Sweep)
   -- a line of a number: a refusal passes up, and from 1000000 on any line is fault 44
   pub refused :
       Responds two_uses newest 1 (codes "C 1 10 9") new_book
@@ -84,16 +86,17 @@ pub record ExamplesRight : Type 0 where
   pub too_late :
       Responds two_uses newest 1000001 (codes "S") new_book
       (Err TooManyLines) (report_of [] []) new_book
-  -- a console knows the line that has begun: it does not forget it
+  -- a console knows the line that has begun
   pub line_begun :
       HasRead two_uses newest Continuous (codes "S\nS") (codes "1 ok\n")
-      (position new_book 1 (codes "S"))
+      (position_of_parts new_book 1 (codes "S"))
   pub line_forgotten :
-      ¬ HasRead two_uses newest Continuous (codes "S\nS") (codes "1 ok\n") (position new_book 1 [])
+      ¬ HasRead two_uses newest Continuous (codes "S\nS") (codes "1 ok\n")
+      (position_of_parts new_book 1 [])
   -- at the end of the input that line is answered too
   pub line_ended :
       HasFinished two_uses newest Continuous (codes "S\nS") (codes "1 ok\n2 ok\n")
-      (position new_book 2 [])
+      (position_of_parts new_book 2 [])
   -- the front of a text is written, and no other part of it
   pub front_written :
       WritesFront (Some (codes "1 ok\n")) (Some (codes "1 ok\n2 o")) (codes "2 ok\n")

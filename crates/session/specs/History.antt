@@ -18,8 +18,8 @@ pub record Position : Type 0 where
   pub line : List ℕ
 
 -- the position of these parts
-abbrev pub position : State → ℕ → List ℕ → Position
-position state answered line = record { state = state; answered = answered; line = line }
+abbrev pub position_of_parts : State → ℕ → List ℕ → Position
+position_of_parts state answered line = record { state = state; answered = answered; line = line }
 
 -- how many of so many lines are answered
 abbrev pub answered_of : ℕ → ℕ

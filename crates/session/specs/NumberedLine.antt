@@ -35,7 +35,7 @@ module _ (u : Relations) (o : Order) (number : ℕ) (line : List ℕ) where
         → CarriedOut u o before c answer r after → Responds before (passed_up answer) r after
 
   -- a run goes on with the line: to the state left, and lawfully
-  pub record RunGoesOn (after : State) (run : Run) : Type 0 where
+  pub record RunGoesOnByLine (after : State) (run : Run) : Type 0 where
     pub longer : Run
     pub goes_on : GoesOn number line run longer
     pub leads : at u o longer ≡ after
@@ -64,10 +64,10 @@ module _ {T O : Type 0} {tm om : _} (uses : T → Relations) (orders : O → Ord
   LeadsHere run = at uses_of orders_of run ≡ state_of before
 
   -- the law over runs: every run that leads to the book goes on with the line, and one leads to it
-  pub record KeepsLaw (after : Book T O tm om) : Type 0 where
+  pub record LineKeepsLaw (after : Book T O tm om) : Type 0 where
     pub every :
         (run : Run) → LeadsHere run
-        → RunGoesOn uses_of orders_of number line (state_of after) run
+        → RunGoesOnByLine uses_of orders_of number line (state_of after) run
     pub some :
         ∥ ((run : Run) × LeadsHere run
-        × RunGoesOn uses_of orders_of number line (state_of after) run) ∥₁
+        × RunGoesOnByLine uses_of orders_of number line (state_of after) run) ∥₁

@@ -1,21 +1,21 @@
 -- What a console's calls promise: where it stands once bytes have been read, or the whole input.
-use Rattle.std.specs.Prelude.{◌≡◌, ℕ, List, [], ◌++◌, take, ◌⊎◌, IfSome, Option}
+use Rattle.std.specs.Prelude.{◌≡◌, ℕ, Bool, List, [], ◌++◌, take, ◌⊎◌, IfSome, Option, nat_le}
 use Rattle.std.specs.Io.KnownBytes.{Appends}
 use Rattle.uses.specs.Relations.{Relations}
 use Rattle.model.specs.Recalling.{Order}
 use Rattle.model.specs.declared.state.Detection.{Detection}
 use Rattle.book.specs.Book.{state_of, table_of as table_of_book, order_of as order_of_book}
 use Rattle.book.specs.declared.policy.Policy.{Policy}
-use Rattle.session.specs.Inputs.{Lines, more, with_rest}
-use Rattle.session.specs.History.{Position, position, HasAnswered, HasRead, HasFinished}
+use Rattle.session.specs.Inputs.{Lines, more, count, with_rest}
+use Rattle.session.specs.History.{Position, position_of_parts, HasAnswered, HasRead, HasFinished}
 use Rattle.session.specs.declared.console.Console.{Console}
-use Rattle.session.specs.declared.limits.TheConstants.{KEPT}
+use Rattle.session.specs.declared.limits.TheConstants.{LAST_LINE, KEPT}
 
 -- here `c` is a console
 module _ {T O : Type 0} {tm om : _} (c : Console T O tm om) where
   -- where it stands
   abbrev pub position_of : Position
-  position_of = position (state_of c.book) c.answered c.line
+  position_of = position_of_parts (state_of c.book) c.answered c.line
 
   -- its use table
   abbrev pub table_of : T
@@ -25,7 +25,7 @@ module _ {T O : Type 0} {tm om : _} (c : Console T O tm om) where
   abbrev pub order_of : O
   order_of = order_of_book c.book
 
-  -- both
+  -- its use table and its recall order
   abbrev pub policy_of : Policy T O
   policy_of = c.book.policy
 
@@ -119,6 +119,12 @@ module _ {T O : Type 0} {tm om : _} (u : T → Relations) (o : O → Order) wher
       (detection : Detection) (ended : Lines) (rest printed : List ℕ)
       → Stands before detection ended rest printed before
       → Stands before detection (with_rest ended rest) [] (printed ++ text) after
+
+  -- whether the console has answered the last line that is read, whatever it has read
+  abbrev pub TellsStop : Console T O tm om → Bool → Type 0
+  TellsStop c stopped =
+      (detection : Detection) (ended : Lines) (rest text : List ℕ)
+      → Stands c detection ended rest text c → stopped ≡ nat_le LAST_LINE (count ended)
 
   -- below, `had` are the bytes that a reader had, where they are known
 

@@ -2,7 +2,7 @@
 ghost use Rattle.std.specs.Prelude.{◌≡◌, ◌≤◌, ◌==◌};
 ghost use Rattle.std.specs.List.{position_or_len};
 ghost use Rattle.book.specs.Tables.{state};
-ghost use Rattle.session.specs.History.{position, HasHistory};
+ghost use Rattle.session.specs.History.{position_of_parts, HasHistory};
 ghost use Rattle.session.specs.declared.limits.TheConstants.{LAST_LINE};
 
 use crate::limits::{KEPT, LAST_LINE};
@@ -34,7 +34,7 @@ pub struct Console<T: UseTable, O: RecallOrder> {
     ghost few: { answered ≤ LAST_LINE },
     // some input was read, and answered so: what holds of every input holds of every console
     ghost history: { HasHistory (T.meaning book.policy.table) (O.meaning book.policy.order)
-        (position (state book.tables) answered line) },
+        (position_of_parts (state book.tables) answered line) },
 }
 
 // How many bytes of a piece stand before its first byte 10, or how many it has if none is in it.
@@ -49,7 +49,7 @@ impl<T: UseTable, O: RecallOrder> Console<T, O> {
     ghost use Rattle.std.specs.Prelude.{◌≡◌, [], ◌++◌, take, OnOk, OnErr, nat_le};
     ghost use Rattle.session.specs.Inputs.{IsUnbroken, line_length};
     ghost use Rattle.session.specs.History.{HasRead};
-    ghost use Rattle.session.specs.Stands.{position_of, table_of, order_of, policy_of, AnswersLine, EndsLine, Reads, ReadsAll, LosesAnswer, EndsLines, Finishes};
+    ghost use Rattle.session.specs.Stands.{position_of, table_of, order_of, policy_of, AnswersLine, EndsLine, Reads, ReadsAll, LosesAnswer, EndsLines, Finishes, TellsStop};
 
     /// A console over a new book. Nothing has been read or printed.
     pub fn new(table: T, order: O, detection: Detection) -> Console<T, O>
@@ -68,7 +68,8 @@ impl<T: UseTable, O: RecallOrder> Console<T, O> {
 
     /// Has line 1000000 been answered? Then nothing more is printed, whatever comes.
     pub fn has_stopped(&self) -> bool
-        ensures { result ≡ nat_le LAST_LINE (position_of self.now).answered }
+        ensures count { result ≡ nat_le LAST_LINE (position_of self.now).answered }
+        ensures lines { TellsStop T.meaning O.meaning self.now result }
     {
         self.answered >= LAST_LINE
     }
@@ -175,8 +176,8 @@ impl Console<TwoUses, Newest> {
     ghost use Rattle.session.specs.History.{HasRead};
     ghost use Rattle.session.specs.Stands.{position_of};
 
-    /// The console of a line as it is usually kept: over a new book that is continuous, has the two
-    /// uses look and move, and recalls the newest.
+    /// The usual console: over a new book that is continuous, has the two uses look and move, and
+    /// recalls the newest.
     pub fn standard() -> Console<TwoUses, Newest>
         ensures { HasRead two_uses newest Continuous [] [] (position_of result) }
     {

@@ -2,7 +2,7 @@
 ghost use Rattle.std.specs.Prelude.{◌≡◌, [], OnErr};
 ghost use Rattle.model.specs.Calls.{report_of};
 ghost use Rattle.session.specs.Transcript.{ReadAs};
-ghost use Rattle.session.specs.NumberedLine.{CarriesOutLine, KeepsLaw};
+ghost use Rattle.session.specs.NumberedLine.{CarriesOutLine, LineKeepsLaw};
 
 use crate::limits::LAST_LINE;
 use book::answer::Answer;
@@ -49,7 +49,7 @@ pub fn answer_line<T: UseTable, O: RecallOrder>(
 ) -> Result<Answer, Fault>
     ensures answered { CarriesOutLine T.meaning O.meaning book.old number line.now
         result report.new book.new }
-    ensures law { KeepsLaw T.meaning O.meaning book.old number line.now book.new }
+    ensures law { LineKeepsLaw T.meaning O.meaning book.old number line.now book.new }
 {
     let call = request(number, line, report)?;
     let answer = book.carry_out(call, report)?;

@@ -1,5 +1,7 @@
-// The theorems on transcripts and their runs. The functions do nothing: the contract of each is what is proved.
-ghost use Rattle.session.specs.Theorems.{TranscriptUnique, RunUnique, TranscriptLawful, PrintedIsFront, ServedIsTranscript, ServedIsFront};
+// The theorems on transcripts and their runs. The functions do nothing: the contract of each is what
+// is proved.
+ghost use Rattle.session.specs.Theorems.{TranscriptUnique, RunUnique, TranscriptLawful};
+ghost use Rattle.session.specs.Theorems.{PrintedIsFront, ServedIsTranscript, ServedIsFront};
 ghost use Rattle.session.specs.Examples.{ExamplesRight};
 
 use crate::console::Console;

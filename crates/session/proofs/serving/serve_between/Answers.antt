@@ -42,7 +42,7 @@ all_answered : (g : given.Over) (c : After-drop-answers-then-count-eq0 g) → An
 all_answered g c =
     elim c.then-count-eq0.branch [
       | then-count-eq0-via-then-count-eq0 w ↦ answered_at_end g.T.UseTable.meaning g.O.RecallOrder.meaning g.met.T.UseTable.lawful g.met.O.RecallOrder.lawful c.args.console.now c.take_all.new.self c.finish.new.self _ _ _ _ (g.W.Write.contents c.write_text-then-count-eq0.new.output) _ c.finish.new.printed (before_end g c) (c.in_ok-count.ensures.bytes.1 (let t = w.if-count-eq0.true in grind (arith, nat_tests, t)) (omega arith)) c.finish.ensures.read
-      | then-count-eq0-via-else-count-eq0+then-has_stopped w ↦ answered_at_stop g.T.UseTable.meaning g.O.RecallOrder.meaning g.met.T.UseTable.lawful g.met.O.RecallOrder.lawful c.args.console.now c.take_all.new.self c.finish.new.self _ _ _ _ (g.W.Write.contents c.write_text-then-count-eq0.new.output) _ c.finish.new.printed (before_end g c) w.has_stopped.result w.has_stopped.ensures w.if-has_stopped.true c.finish.ensures.left
+      | then-count-eq0-via-else-count-eq0+then-has_stopped w ↦ answered_at_stop g.T.UseTable.meaning g.O.RecallOrder.meaning g.met.T.UseTable.lawful g.met.O.RecallOrder.lawful c.args.console.now c.take_all.new.self c.finish.new.self _ _ _ _ (g.W.Write.contents c.write_text-then-count-eq0.new.output) _ c.finish.new.printed (before_end g c) w.has_stopped.result w.has_stopped.ensures.count w.if-has_stopped.true c.finish.ensures.left
     ]
 
 pub returns-then-count-eq0-clause-served : goal.returns-then-count-eq0-clause-served

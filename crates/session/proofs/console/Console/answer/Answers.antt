@@ -1,7 +1,7 @@
 use Rattle.std.proofs.Common.{◌+◌, [], refl, arith}
 use Rattle.model.proofs.Grants.{led_invariant}
 use Rattle.book.specs.Tables.{state}
-use Rattle.session.specs.History.{position}
+use Rattle.session.specs.History.{position_of_parts}
 use Rattle.session.specs.Stands.{position_of}
 use Rattle.session.proofs.Responding.{Printable, printable}
 use Rattle.session.proofs.Standing.{response_printed, line_passed}
@@ -26,7 +26,7 @@ invariant_of-self g c =
     let after = c.answer_line-outcome.new.book in
     record {
       few = omega arith;
-      history = rw c.answer_line-outcome.ensures.answered.policy (history_responded (g.T.UseTable.meaning was.book.policy.table) (g.O.RecallOrder.meaning was.book.policy.order) c.args.line.now (was.answered + 1) c.answer_line-outcome.result c.answer_line-outcome.new.report (position_of was) (position (state after.tables) (was.answered + 1) was.line) c.requires (omega arith) (omega arith) (given_by_line g (goal.at.invariant_of-self g c).After-answer_line-outcome) refl refl was.history);
+      history = rw c.answer_line-outcome.ensures.answered.policy (history_responded (g.T.UseTable.meaning was.book.policy.table) (g.O.RecallOrder.meaning was.book.policy.order) c.args.line.now (was.answered + 1) c.answer_line-outcome.result c.answer_line-outcome.new.report (position_of was) (position_of_parts (state after.tables) (was.answered + 1) was.line) c.requires (omega arith) (omega arith) (given_by_line g (goal.at.invariant_of-self g c).After-answer_line-outcome) refl refl was.history);
     }
 
 pub returns-then-self-eq-LAST_LINE : goal.returns-then-self-eq-LAST_LINE
@@ -42,6 +42,6 @@ returns g c =
     let was = c.args.self.now in
     let after = c.answer_line-outcome.new.book in
     record {
-      done = λ detection ended line before same h. response_printed (g.T.UseTable.meaning was.book.policy.table) (g.O.RecallOrder.meaning was.book.policy.order) detection ended c.args.line.now line [] before c.print_outcome.new.out (position_of was) (position (state after.tables) (was.answered + 1) was.line) (was.answered + 1) c.answer_line-outcome.result c.answer_line-outcome.new.report same h (omega arith) (omega arith) (given_by_line g (goal.at.returns g c).After-answer_line-outcome) c.print_outcome.ensures refl refl;
+      done = λ detection ended line before same h. response_printed (g.T.UseTable.meaning was.book.policy.table) (g.O.RecallOrder.meaning was.book.policy.order) detection ended c.args.line.now line [] before c.print_outcome.new.out (position_of was) (position_of_parts (state after.tables) (was.answered + 1) was.line) (was.answered + 1) c.answer_line-outcome.result c.answer_line-outcome.new.report same h (omega arith) (omega arith) (given_by_line g (goal.at.returns g c).After-answer_line-outcome) c.print_outcome.ensures refl refl;
       policy = c.answer_line-outcome.ensures.answered.policy;
     }

@@ -1,6 +1,6 @@
 use Rattle.std.proofs.Common.{◌∙◌, refl, arith}
 use Rattle.book.specs.Tables.{state}
-use Rattle.session.specs.History.{position}
+use Rattle.session.specs.History.{position_of_parts}
 use Rattle.session.specs.Stands.{position_of}
 use Rattle.session.proofs.Gathering.{ends_whole, ends_gathered}
 use Rattle.session.proofs.Histories.{history_anew, line_unbroken}
@@ -11,7 +11,7 @@ invariant_of-self g c =
     let mid = c.gather.new.self in
     record {
       few = mid.few;
-      history = history_anew (g.T.UseTable.meaning mid.book.policy.table) (g.O.RecallOrder.meaning mid.book.policy.order) (position_of mid) (position (state mid.book.tables) mid.answered c.replace-line.new.dest) refl refl (c.replace-line.ensures.after ∙ c.new.ensures) mid.history;
+      history = history_anew (g.T.UseTable.meaning mid.book.policy.table) (g.O.RecallOrder.meaning mid.book.policy.order) (position_of mid) (position_of_parts (state mid.book.tables) mid.answered c.replace-line.new.dest) refl refl (c.replace-line.ensures.after ∙ c.new.ensures) mid.history;
     }
 
 pub answer-requires-2 : goal.answer-requires-2

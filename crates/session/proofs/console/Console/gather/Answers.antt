@@ -1,7 +1,7 @@
 use Rattle.std.proofs.Common.{◌≡◌, ℕ, ◌-◌, ◌≤◌, ◌++◌, length, take, min, sym, refl, ap, ◌∙◌, arith}
 use Rattle.text_buffer.proofs.TextBufferLemmas.{take_fitting}
 use Rattle.book.specs.Tables.{state}
-use Rattle.session.specs.History.{position}
+use Rattle.session.specs.History.{position_of_parts}
 use Rattle.session.specs.Stands.{position_of}
 use Rattle.session.proofs.Histories.{history_kept}
 use Rattle.session.proofs.console.Console.gather.Given as given
@@ -24,7 +24,7 @@ invariant_of-self g c =
     let was = c.args.self.now in
     record {
       few = was.few;
-      history = history_kept (g.T.UseTable.meaning was.book.policy.table) (g.O.RecallOrder.meaning was.book.policy.order) c.args.bytes.now (position_of was) (position (state was.book.tables) was.answered c.extend_from_slice.new.self) c.requires refl refl (kept g (goal.at.invariant_of-self g c).After-extend_from_slice) was.history;
+      history = history_kept (g.T.UseTable.meaning was.book.policy.table) (g.O.RecallOrder.meaning was.book.policy.order) c.args.bytes.now (position_of was) (position_of_parts (state was.book.tables) was.answered c.extend_from_slice.new.self) c.requires refl refl (kept g (goal.at.invariant_of-self g c).After-extend_from_slice) was.history;
     }
 
 pub returns-clause-kept : goal.returns-clause-kept

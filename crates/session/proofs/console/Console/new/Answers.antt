@@ -3,14 +3,14 @@ use Rattle.model.specs.State.{State}
 use Rattle.book.specs.Tables.{state}
 use Rattle.session.specs.Inputs.{none}
 use Rattle.session.specs.Transcript.{AnswersLines, nothing}
-use Rattle.session.specs.History.{position, HasRead}
+use Rattle.session.specs.History.{position_of_parts, HasRead}
 use Rattle.session.proofs.Cutting.{cut_nothing}
 use Rattle.session.proofs.console.Console.new.Given as given
 use Rattle.session.proofs.console.Console.new.Goals as goal
 use Rattle.session.proofs.console.Console.new.Goals.{After-new-2}
 
 -- nothing was read
-starts : (g : given.Over) (c : After-new-2 g) → HasRead (g.T.UseTable.meaning c.args.table) (g.O.RecallOrder.meaning c.args.order) c.args.detection [] [] (position (state c.new.result.tables) 0 c.new-2.result)
+starts : (g : given.Over) (c : After-new-2 g) → HasRead (g.T.UseTable.meaning c.args.table) (g.O.RecallOrder.meaning c.args.order) c.args.detection [] [] (position_of_parts (state c.new.result.tables) 0 c.new-2.result)
 starts g c = record {
   ended = none;
   rest = [];
