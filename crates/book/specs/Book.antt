@@ -28,6 +28,11 @@ table_of b = b.policy.table
 abbrev pub order_of : {T O : Type 0} {t p : _} → Book T O t p → O
 order_of b = b.policy.order
 
+-- the run leads to the book, by the meanings of its table and its order
+abbrev pub LeadsTo : {T O : Type 0} {t p : _}
+    → (T → Relations) → (O → Order) → Book T O t p → Run → Type 0
+LeadsTo uses orders b run = at (uses (table_of b)) (orders (order_of b)) run ≡ state_of b
+
 -- below, `u` is the meaning of the use table, `o` that of the recall order
 module _ (u : Relations) (o : Order)
     (before : State) (c : Call) (answer : Result Answer Refusal) (r : Report) (after : State) where
@@ -64,18 +69,14 @@ module _ {T O : Type 0} {t p : _} (uses : T → Relations) (orders : O → Order
     pub carried : CarriedOut uses_of orders_of (state_of before) c answer r (state_of after)
     pub policy : after.policy ≡ before.policy
 
-  -- a run that leads to the book
-  abbrev LeadsHere : Run → Type 0
-  LeadsHere run = at uses_of orders_of run ≡ state_of before
-
-  -- it goes on with the call
+  -- a run goes on with the call
   abbrev GoesOn : Run → Type 0
   GoesOn = RunGoesOn uses_of orders_of (state_of before) c answer r (state_of after)
 
   -- the law over runs: every run that leads to the book goes on with the call, and one leads to it
   pub record KeepsLaw : Type 0 where
-    pub every : (run : Run) → LeadsHere run → GoesOn run
-    pub some : ∥ ((run : Run) × LeadsHere run × GoesOn run) ∥₁
+    pub every : (run : Run) → LeadsTo uses orders before run → GoesOn run
+    pub some : ∥ ((run : Run) × LeadsTo uses orders before run × GoesOn run) ∥₁
 
 -- the status is the model's; a refusal is by the model's number
 abbrev pub IsStatus : Relations → State → ℕ → Result Status Refusal → Type 0

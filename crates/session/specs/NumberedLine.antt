@@ -9,7 +9,7 @@ use Rattle.model.specs.Runs.{Run, at}
 use Rattle.model.specs.Law.{Law}
 use Rattle.model.specs.declared.call.Call.{Call}
 use Rattle.model.specs.declared.report.Report.{Report}
-use Rattle.book.specs.Book.{state_of, table_of, order_of, CarriedOut}
+use Rattle.book.specs.Book.{state_of, table_of, order_of, LeadsTo, CarriedOut}
 use Rattle.book.specs.declared.answer.Answer.{Answer}
 use Rattle.book.specs.declared.answer.Refusal.{Refusal}
 use Rattle.book.specs.declared.book.Book.{Book}
@@ -59,15 +59,11 @@ module _ {T O : Type 0} {tm om : _} (uses : T → Relations) (orders : O → Ord
         Responds uses_of orders_of number line (state_of before) outcome r (state_of after)
     pub policy : after.policy ≡ before.policy
 
-  -- a run that leads to the book
-  abbrev LeadsHere : Run → Type 0
-  LeadsHere run = at uses_of orders_of run ≡ state_of before
-
   -- the law over runs: every run that leads to the book goes on with the line, and one leads to it
   pub record LineKeepsLaw (after : Book T O tm om) : Type 0 where
     pub every :
-        (run : Run) → LeadsHere run
+        (run : Run) → LeadsTo uses orders before run
         → RunGoesOnByLine uses_of orders_of number line (state_of after) run
     pub some :
-        ∥ ((run : Run) × LeadsHere run
+        ∥ ((run : Run) × LeadsTo uses orders before run
         × RunGoesOnByLine uses_of orders_of number line (state_of after) run) ∥₁
