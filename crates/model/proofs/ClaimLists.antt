@@ -3,7 +3,7 @@ use Rattle.std.proofs.Common.{◌≡◌, ℕ, ◌+◌, ◌≤◌, Bool, true, fa
 use mathlib.Core.Bool.{and_assoc, or-false}
 use Rattle.std.specs.Option.{option_map}
 use Rattle.std.proofs.lemmas.List.Elements.{filter-append}
-use Rattle.std.proofs.lemmas.Bool.{and_parts, and_from, or_left, eq-eqb, not_from_false, cases_Bool, both_ways}
+use Rattle.std.proofs.lemmas.Bool.{and_parts, and_from, or_left, eq-eqb, not-true, not_from_false, cases_Bool, both_ways}
 use Rattle.std.proofs.lemmas.Bool.Decides.{nat_tests}
 use Rattle.uses.specs.Relations.{Relations, UseLaws}
 use Rattle.model.specs.Search.{any, find}
@@ -118,6 +118,16 @@ module _ (u : Relations) where
   -- with fewer claims before it a claim waits less
   waits_less : (x : ℕ) (p : InLine) → waits u (strip x p) ≡ true → waits u p ≡ true
   waits_less x p h = any_fewer (λ b. not (of x b)) (λ b. blocks u b p.claim) p.earlier h
+
+  -- who waits without a dispatch waited with it, and is another
+  pub dispatch_waits_without : (cs : List Claim) (x d : ℕ) → dispatch_waits u (without x cs) d ≡ true → (dispatch_waits u cs d ≡ true) × (eqb d x ≡ false)
+  dispatch_waits_without cs x d h =
+      let parts = and_parts (not (eqb d x)) (any (λ p. of d p.claim && waits u (strip x p)) (in_line cs)) (rw (any_of_without d x (waits u) cs) at h) in
+      (any_wider _ _ (λ p k. grind (arith, waits_less x p)) (in_line cs) parts.1, not-true _ parts.0)
+
+  -- who waits for a dispatch waits
+  pub waits_for_waits : (cs : List Claim) (d e : ℕ) → waits_for u cs d e ≡ true → dispatch_waits u cs d ≡ true
+  waits_for_waits cs d e h = any_wider _ _ (λ p k. grind (arith, blocked_waits e p)) (in_line cs) h
 
   -- who waits waits for some dispatch
   pub waits_waits_for : (cs : List Claim) (d : ℕ) → dispatch_waits u cs d ≡ true → (e : ℕ) × (waits_for u cs d e ≡ true)

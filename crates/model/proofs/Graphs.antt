@@ -36,6 +36,11 @@ pub first_step : (r : ℕ → ℕ → Bool) {a b : ℕ} → Leads r a b → (c :
 first_step r (one h) = (_, h)
 first_step r (more h l) = (_, h)
 
+-- what leads anywhere has a last step
+pub last_step : (r : ℕ → ℕ → Bool) {a b : ℕ} → Leads r a b → (c : ℕ) × (r c b ≡ true)
+last_step r (one h) = (_, h)
+last_step r (more h l) = last_step r l
+
 -- a step by way of k is one step or two
 by_way_of_leads : (k : ℕ) (r : ℕ → ℕ → Bool) (a b : ℕ) → by_way_of k r a b ≡ true → Leads r a b
 by_way_of_leads k r a b h =

@@ -16,7 +16,7 @@ use Rattle.model.specs.Law.{Exclusion, IsRunning, WaitsEnd, LawOf, Law}
 use Rattle.model.specs.Examples.{look, move}
 use Rattle.model.specs.LawExamples.{LawExamplesRight, two_docks_run, one_waits_run, two_stations_run, looked_at_run, two_wait_run, covered_run, one_sided, one_sided_run, deadlock, queue_of, behind_nobody, entry, outcome_recalling, changed_after, MayNotLeave, MayNotRecall, BreaksRecallWhen}
 use Rattle.model.proofs.LawHolds.{law}
-use Rattle.model.proofs.Graphs.{first_step}
+use Rattle.model.proofs.Graphs.{first_step, last_step}
 use Rattle.model.proofs.Grants.{run_invariant}
 use Rattle.model.specs.declared.call.Call.TheVariants.{Open, Claim, Close, Withdraw, Acknowledge, Sweep}
 use Rattle.model.specs.declared.state.Claim.{Claim as ClaimEntry}
@@ -162,11 +162,6 @@ acknowledges h = ⊎_elim (λ e. cc) (λ entry. entry.1) (h.recall_when.1.by_no_
 covered : MayNotRecall (one_waits_run Continuous) (Claim 2 11 look) (2 ∷ [])
 unfolding step closure on_cycles recall_result_within recall_result
 covered h = ⊎_elim (λ e. cc) (λ entry. entry.1) (h.recall_when.1.by_no_other (λ e. cc))
-
--- what leads to a number has a last step
-last_step : (r : ℕ → ℕ → Bool) {a b : ℕ} → Leads r a b → (c : ℕ) × (r c b ≡ true)
-last_step r (one h) = (_, h)
-last_step r (more h l) = last_step r l
 
 -- the claims once 2 has claimed the section of 1, which waits for both lookers
 abbrev looked_at : List ClaimEntry

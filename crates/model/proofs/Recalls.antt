@@ -142,6 +142,12 @@ module _ (u : Relations) (o : Order) where
   recalls_clear (done clear) = clear
   recalls_clear (next cycle best rest) = recalls_clear rest
 
+  -- the state at the end is the one with the named recalled
+  pub recalls_state :
+      {s t : State} {ns : List ReportEntry} → Recalls u o s ns t → once_recalled ns s ≡ t
+  recalls_state (done clear) = refl
+  recalls_state (next cycle best rest) = recalls_state rest
+
   -- where a cycle stands, somebody is recalled
   pub recalls_some :
       {s t : State} {ns : List ReportEntry} → Recalls u o s ns t → (d : ℕ)
