@@ -1,5 +1,6 @@
 // The claim table (a lock table). The contracts speak of it as the list of its claims.
 ghost use Rattle.std.specs.Prelude.{◌≡◌, ◌<◌, ◌≤◌, ℕ, [], ◌∷◌, ◌++◌, length, ◌↔◌, IsTrue, nat_le};
+ghost use Rattle.std.specs.List.{All};
 ghost use Rattle.dispatch_set.specs.DispatchSet.{contains};
 ghost use Rattle.model.specs.Claims.{without, is_covered, blocks, dispatch_waits, waiting_section, held_count as held_count_of, waits_for, holds, in_line};
 ghost use Rattle.model.specs.Graph.{OnCycle};
@@ -63,9 +64,10 @@ impl ClaimTable {
         }
     }
 
-    /// How many claims there are.
+    /// How many claims there are: at most 512.
     pub fn len(&self) -> usize
-        ensures { result ≡ length self.now }
+        ensures value { result ≡ length self.now }
+        ensures fits { result ≤ CLAIMS }
     {
         self.list.len()
     }
@@ -77,9 +79,11 @@ impl ClaimTable {
         self.len() >= CLAIMS
     }
 
-    /// The claims, in order.
+    /// The claims, in order: at most 512, each of a dispatch number.
     pub fn rows(&self) -> &[Claim]
-        ensures { result.now ≡ self.now }
+        ensures value { result.now ≡ self.now }
+        ensures fits { length result.now ≤ CLAIMS }
+        ensures small { All (λ c. c.dispatch < DISPATCHES) result.now }
     {
         self.list.rows()
     }
