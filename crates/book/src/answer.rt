@@ -54,29 +54,30 @@ impl fmt::Display for Answer {
     }
 }
 
-/// Why a call was refused, in the order of the checks. The first that applies is the answer.
+/// Why a call was refused, in the order of the checks, numbered from 1. The first that applies is
+/// the answer.
 #[derive(Clone, Copy, Debug, PartialEq, Eq)]
 pub enum Refusal {
     /// the dispatch number is above 63
-    NumberTooHigh = 1,
+    NumberTooHigh,
     /// the section is above 1023
-    SectionTooHigh = 2,
+    SectionTooHigh,
     /// the use is unknown
-    NotKnown = 3,
+    NotKnown,
     /// the weight is above 1000
-    WeightTooHigh = 4,
+    WeightTooHigh,
     /// the dispatch is recalled
-    IsRecalled = 5,
+    IsRecalled,
     /// the dispatch is open
-    IsOpen = 6,
+    IsOpen,
     /// the dispatch is free
-    IsFree = 7,
+    IsFree,
     /// the dispatch waits
-    IsWaiting = 8,
+    IsWaiting,
     /// 512 claims stand and the new one is not covered
-    NoRoom = 9,
+    NoRoom,
     /// the dispatch is not recalled
-    NotRecalled = 10,
+    NotRecalled,
 }
 
 impl Refusal {
@@ -84,7 +85,7 @@ impl Refusal {
     pub fn number(self) -> u8
         ensures { result ≡ number self }
     {
-        self as u8
+        self as u8 + 1
     }
 
     /// The reason in words, for a person.
