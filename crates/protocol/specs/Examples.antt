@@ -12,7 +12,7 @@ use Rattle.protocol.specs.Faults.{fault_number, fault_place, fault_layer}
 use Rattle.protocol.specs.Reading.{Reading}
 use Rattle.protocol.specs.Words.{printed, reply_to}
 use Rattle.protocol.specs.declared.fault.Fault.{Fault}
-use Rattle.protocol.specs.declared.fault.Fault.TheVariants.{TooManyLines, TooLong, NoLetter, WrongForm, Refused}
+use Rattle.protocol.specs.declared.fault.Fault.TheVariants.{TooManyLines, TooLong, NoLetter, WrongForm, Refused, Numbered}
 use Rattle.protocol.specs.declared.fault.Layer.{Layer}
 use Rattle.protocol.specs.declared.fault.Layer.TheVariants.{Line, UseTable, Book}
 
@@ -73,7 +73,8 @@ abbrev pub alone : ℕ → Result Answer Fault → List ℕ → Printing
 alone number outcome text =
     record { number = number; outcome = outcome; recalls = []; wakes = []; text = text }
 
--- each answer, each refusal, each fault of a line, and two outcomes with recalled and woken
+-- each answer, each refusal, each fault of a line, two faults of a program's own, and two outcomes
+-- with recalled and woken
 abbrev pub printings : List Printing
 printings =
     alone 1 (Ok answer.Ok) (codes "1 ok\n")
@@ -94,6 +95,8 @@ printings =
     ∷ alone 16 (Err NoLetter) (codes "16 fault 42 at 1\n")
     ∷ alone 17 (Err (WrongForm 4)) (codes "17 fault 43 at 4\n")
     ∷ alone 1000000 (Err TooManyLines) (codes "1000000 fault 44 at 1\n")
+    ∷ alone 5 (Err (Numbered Line 45 7)) (codes "5 fault 45 at 7\n")
+    ∷ alone 5 (Err (Numbered UseTable 15 3)) (codes "5 refused 15\n")
     ∷ record {
       number = 18;
       outcome = Ok answer.Recalled;
@@ -129,7 +132,7 @@ pub record IsFaultRow (x : FaultRow) : Type 0 where
   pub placed : fault_place x.fault ≡ x.place
   pub layered : fault_layer x.fault ≡ x.layer
 
--- every fault of a line, two with their places, and every refusal
+-- every fault of a line, two with their places, every refusal, and a fault of a program's own
 abbrev pub faults : List FaultRow
 faults =
     row TooManyLines 44 1 Line
@@ -147,6 +150,7 @@ faults =
     ∷ row (Refused IsWaiting) 8 1 Book
     ∷ row (Refused NoRoom) 9 2 Book
     ∷ row (Refused NotRecalled) 10 1 Book
+    ∷ row (Numbered UseTable 15 3) 15 3 UseTable
     ∷ []
 
 -- the worked examples are right

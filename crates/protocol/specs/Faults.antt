@@ -4,7 +4,7 @@ use Rattle.book.specs.Answer.{number}
 use Rattle.book.specs.declared.answer.Refusal.{Refusal}
 use Rattle.book.specs.declared.answer.Refusal.TheVariants.{NumberTooHigh, SectionTooHigh, NotKnown, WeightTooHigh, IsRecalled, IsOpen, IsFree, IsWaiting, NoRoom, NotRecalled}
 use Rattle.protocol.specs.declared.fault.Fault.{Fault}
-use Rattle.protocol.specs.declared.fault.Fault.TheVariants.{TooManyLines, TooLong, NoLetter, WrongForm, Refused}
+use Rattle.protocol.specs.declared.fault.Fault.TheVariants.{TooManyLines, TooLong, NoLetter, WrongForm, Refused, Numbered}
 use Rattle.protocol.specs.declared.fault.Layer.{Layer}
 use Rattle.protocol.specs.declared.fault.Layer.TheVariants.{Line, UseTable, Book}
 
@@ -42,6 +42,7 @@ fault_number TooLong = 41
 fault_number NoLetter = 42
 fault_number (WrongForm place) = 43
 fault_number (Refused refusal) = number refusal
+fault_number (Numbered layer number place) = number
 
 -- the place of a fault: of a line the byte, of a refusal the field
 abbrev pub fault_place : Fault → ℕ
@@ -50,6 +51,7 @@ fault_place TooLong = 33
 fault_place NoLetter = 1
 fault_place (WrongForm place) = place
 fault_place (Refused refusal) = field refusal
+fault_place (Numbered layer number place) = place
 
 -- where a fault is found
 abbrev pub fault_layer : Fault → Layer
@@ -58,3 +60,4 @@ fault_layer TooLong = Line
 fault_layer NoLetter = Line
 fault_layer (WrongForm place) = Line
 fault_layer (Refused refusal) = layer refusal
+fault_layer (Numbered layer number place) = layer

@@ -32,10 +32,12 @@ pub enum Fault {
     WrongForm { place: u8 },
     /// The call of the line was refused.
     Refused(Refusal),
+    /// A fault of a program's own, told by its numbers. Nothing here makes one.
+    Numbered { layer: Layer, number: u8, place: u8 },
 }
 
 impl Fault {
-    /// Its number: 1 to 10 for a refusal, 41 to 44 for a line.
+    /// Its number: 1 to 10 for a refusal, 41 to 44 for a line, any for a program's own.
     pub fn number(self) -> u8
         ensures { result ≡ fault_number self }
     {
@@ -45,6 +47,7 @@ impl Fault {
             Fault::WrongForm { .. } => 43,
             Fault::TooManyLines => 44,
             Fault::Refused(refusal) => refusal.number(),
+            Fault::Numbered { number, .. } => number,
         }
     }
 
@@ -55,7 +58,7 @@ impl Fault {
         match self {
             Fault::TooManyLines | Fault::NoLetter => 1,
             Fault::TooLong => 33,
-            Fault::WrongForm { place } => place,
+            Fault::WrongForm { place } | Fault::Numbered { place, .. } => place,
             Fault::Refused(refusal) => field_of(refusal),
         }
     }
@@ -66,6 +69,7 @@ impl Fault {
     {
         match self {
             Fault::Refused(refusal) => refused_by(refusal),
+            Fault::Numbered { layer, .. } => layer,
             _ => Layer::Line,
         }
     }
