@@ -81,6 +81,17 @@ check_wrong_arguments() {
     refuses 'ORDER is newest, lightest or fewest' periodic five newest,lightest,fewest
 }
 
+# The program's own name is no argument, and may be no text.
+check_name() {
+    odd=$scratch/$(printf '\377')
+    mkdir "$odd" && cp "$program" "$odd/console" || exit 2
+    truth=no
+    if test "$(echo 'O 1 5' | "$odd/console" 2>&1)" = '1 ok'; then
+        truth=yes
+    fi
+    note 'a name that is no text' $truth
+}
+
 scratch=$(mktemp -d) || exit 2
 trap 'rm -rf "$scratch"' EXIT
 if is_stale; then
@@ -95,6 +106,7 @@ else
         run_scenario "$(basename "$folder")"
     done
     check_wrong_arguments
+    check_name
 fi
 echo "$passed as expected, $failed not"
 test $failed -eq 0

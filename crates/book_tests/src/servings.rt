@@ -3,7 +3,9 @@ use model::state::Detection;
 use orders::single::Newest;
 use session::console::Console;
 use session::serving::{serve_between, transcript};
-use settings::setting::choose;
+use settings::any_table::AnyTable;
+use settings::arguments::read_setting;
+use settings::setting::{Setting, choose};
 use std::alloc::Global;
 use std::io;
 use std::io::{Cursor, ErrorKind};
@@ -83,5 +85,25 @@ fn a_book_of_chosen_words_is_served(rt: HostRuntime) -> Result<(), Fail> {
         )?;
         assert_eq!(&rt; out.as_slice(), ANSWERS);
     }
+    Ok(())
+}
+
+#[test]
+fn the_arguments_of_a_program_choose_its_book(rt: HostRuntime) -> Result<(), Fail> {
+    let mut args = Vec::new(rt.alloc());
+    for word in ["console", "periodic", "span", "fewest"] {
+        args.push(word.to_string(rt.alloc())?)?;
+    }
+    let chosen = read_setting(args.into_iter());
+    assert!(&rt;
+        matches!(
+            chosen,
+            Ok(Setting {
+                detection: Detection::Periodic,
+                table: AnyTable::Span(_),
+                ..
+            })
+        )
+    );
     Ok(())
 }

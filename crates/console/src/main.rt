@@ -3,13 +3,12 @@
 // The console of a line: calls on standard input, answers on standard output. With no arguments the
 // book is continuous, has the two uses look and move, and recalls the newest; three arguments
 // choose another.
-mod arguments;
-
-use crate::arguments::read_setting;
 use orders::order::RecallOrder;
 use session::console::Console;
 use session::serving::serve_between;
+use settings::arguments::read_setting;
 use settings::setting::Wrong;
+use std::env::{Env, FillError};
 use std::process::ExitCode;
 use std::{env, io};
 use uses::table::UseTable;
@@ -36,13 +35,20 @@ fn serve<T: UseTable + Drop, O: RecallOrder + Drop>(
     Ok(ExitCode::SUCCESS)
 }
 
+// Was the program called by its name alone? The name may be any bytes.
+fn has_no_arguments(rt: &HostRuntime) -> bool {
+    matches!(rt.arg(1, &mut []), Err(FillError::NotPresent))
+}
+
 fn main(rt: HostRuntime) -> io::Result<ExitCode> {
+    if has_no_arguments(&rt) {
+        return serve(&rt, Console::standard());
+    }
     let Ok(args) = env::args(&rt) else {
         return complain(&rt, Wrong::Unreadable);
     };
     match read_setting(args) {
-        Ok(None) => serve(&rt, Console::standard()),
-        Ok(Some(chosen)) => serve(
+        Ok(chosen) => serve(
             &rt,
             Console::new(chosen.table, chosen.order, chosen.detection),
         ),

@@ -1,5 +1,5 @@
 -- What three words choose.
-use Rattle.std.specs.Prelude.{◌≡◌, ℕ, List, ◌++◌, Ok, Err, codes, string_bytes, Result, ◌≢◌}
+use Rattle.std.specs.Prelude.{◌≡◌, ℕ, List, [], ◌∷◌, ◌++◌, Ok, Err, codes, string_bytes, Result, ◌≢◌}
 use Rattle.settings.specs.Names.{table_name, order_name, detection_name}
 use Rattle.settings.specs.declared.setting.Setting.{Setting}
 use Rattle.settings.specs.declared.setting.Wrong.{Wrong}
@@ -50,3 +50,8 @@ Chooses detection table order (Ok s) =
     × (table ≡ table_name s.table)
     × (order ≡ order_name s.order)
 Chooses detection table order (Err w) = IsFirstWrong detection table order w
+
+-- three arguments choose a setting, and any other count of them is wrong
+abbrev pub ReadsArguments : List (List ℕ) → Result Setting Wrong → Type 0
+ReadsArguments (detection ∷ table ∷ order ∷ []) r = Chooses detection table order r
+ReadsArguments _ r = r ≡ Err Count
