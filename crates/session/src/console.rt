@@ -147,6 +147,30 @@ impl<T: UseTable, O: RecallOrder> Console<T, O> {
         self.end_line(&[], printed);
     }
 
+    // Takes a whole piece as `take_all` does, by the caller's place for the answers, so that a caller
+    // with many pieces makes one.
+    pub(crate) fn take_all_by(
+        &mut self,
+        piece: &[u8],
+        printed: &mut TextBuffer,
+        out: &mut Vec<u8>,
+    ) -> Result<(), AllocError>
+        ensures read { OnOk result
+            (ReadsAll T.meaning O.meaning self.old self.new piece.now out.old.items out.new.items) }
+        ensures failed { OnErr result
+            (LosesAnswer T.meaning O.meaning self.old self.new piece.now
+            out.old.items out.new.items) }
+        ensures policy { policy_of self.new ≡ policy_of self.old }
+    {
+        let mut rest = piece;
+        while !rest.is_empty() {
+            let taken = self.take(rest, printed);
+            out.extend_from_slice(printed.text())?;
+            rest = &rest[taken..];
+        }
+        Ok(())
+    }
+
     /// Takes a whole piece, and puts all that is printed behind what is in `out`. Where there is no
     /// memory for an answer, that answer is lost, and what stands behind its line is not taken.
     pub fn take_all(&mut self, piece: &[u8], out: &mut Vec<u8>) -> Result<(), AllocError>
@@ -157,14 +181,12 @@ impl<T: UseTable, O: RecallOrder> Console<T, O> {
             out.old.items out.new.items) }
         ensures policy { policy_of self.new ≡ policy_of self.old }
     {
-        let mut printed = TextBuffer::new();
-        let mut rest = piece;
-        while !rest.is_empty() {
-            let taken = self.take(rest, &mut printed);
-            out.extend_from_slice(printed.text())?;
-            rest = &rest[taken..];
+        if before_line_end(piece) == piece.len() {
+            // no line ends here, so nothing is printed
+            self.gather(piece);
+            return Ok(());
         }
-        Ok(())
+        self.take_all_by(piece, &mut TextBuffer::new(), out)
     }
 }
 

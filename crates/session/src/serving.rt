@@ -27,11 +27,11 @@ pub fn transcript<T: UseTable + Drop, O: RecallOrder + Drop>(
         (all_bytes (map (λ p. p.now) pieces.now)) v.items) }
 {
     let mut console = Console::new(table, order, detection);
+    let mut printed = TextBuffer::new();
     let mut out = Vec::new(alloc);
     for piece in pieces {
-        console.take_all(piece, &mut out)?;
+        console.take_all_by(piece, &mut printed, &mut out)?;
     }
-    let mut printed = TextBuffer::new();
     console.finish(&mut printed);
     out.extend_from_slice(printed.text())?;
     Ok(out)
@@ -84,14 +84,14 @@ pub fn serve_between<R: Read, W: Write, T: UseTable, O: RecallOrder>(
     ensures policy { policy_of console.new ≡ policy_of console.old }
 {
     let mut block = [0; BLOCK];
+    let mut printed = TextBuffer::new();
     let mut answers = Vec::new(alloc);
     for _ in 0..u64::MAX {
         let count = input.read(&mut block)?;
-        console.take_all(&block[..count], &mut answers)?;
+        console.take_all_by(&block[..count], &mut printed, &mut answers)?;
         write_text(output, answers.as_slice())?;
         answers.clear();
         if count == 0 || console.has_stopped() {
-            let mut printed = TextBuffer::new();
             console.finish(&mut printed);
             return write_text(output, printed.text());
         }

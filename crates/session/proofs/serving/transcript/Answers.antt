@@ -11,8 +11,8 @@ pub loop-piece-preserved : goal.loop-piece-preserved
 loop-piece-preserved g c =
     let pieces = c.args.pieces.now in
     let i = c.loop-piece.piece-index in
-    let read = c.in_ok-take_all.ensures.read in
-    read_more g.T.UseTable.meaning g.O.RecallOrder.meaning c.new-console.result c.loop-piece.console c.take_all.new.self (all_bytes (map (λ p. p.now) pieces)) (all_bytes (map (λ p. p.now) (drop i pieces))) _ (all_bytes (map (λ p. p.now) (drop (i + 1) pieces))) (vec_items c.new-out.result) (vec_items c.loop-piece.out) read.0 (vec_items c.take_all.new.out) c.loop-piece.invariant (next_piece (λ p. p.now) pieces i _ c.loop-piece-test.true) read.2 read.1 c.take_all.ensures.policy
+    let read = c.in_ok-take_all_by.ensures.read in
+    read_more g.T.UseTable.meaning g.O.RecallOrder.meaning c.new-console.result c.loop-piece.console c.take_all_by.new.self (all_bytes (map (λ p. p.now) pieces)) (all_bytes (map (λ p. p.now) (drop i pieces))) _ (all_bytes (map (λ p. p.now) (drop (i + 1) pieces))) (vec_items c.new-out.result) (vec_items c.loop-piece.out) read.0 (vec_items c.take_all_by.new.out) c.loop-piece.invariant (next_piece (λ p. p.now) pieces i _ c.loop-piece-test.true) read.2 read.1 c.take_all_by.ensures.policy
 
 pub returns : goal.returns
 returns g c =
