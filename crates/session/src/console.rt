@@ -147,8 +147,8 @@ impl<T: UseTable, O: RecallOrder> Console<T, O> {
         self.end_line(&[], printed);
     }
 
-    // Takes a whole piece as `take_all` does, by the caller's place for the answers, so that a caller
-    // with many pieces makes one.
+    // Takes a whole piece as `take_all` does, with a place for printed bytes that is lent, so that who
+    // takes many pieces makes one.
     pub(crate) fn take_all_by(
         &mut self,
         piece: &[u8],

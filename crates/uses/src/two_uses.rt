@@ -58,8 +58,8 @@ impl fmt::Display for Use {
 }
 
 /// Looks stand beside each other; a move stands alone, and covers a look.
-// The questions match the codes: asked of values of `Use` they took twice the time, and the book
-// asks them for each pair of claims on a section.
+// The questions match the codes: where they are read as values of `Use` first, a question that is
+// asked by itself takes twice the time.
 #[derive(Clone, Copy, Debug, Default)]
 pub struct TwoUses;
 
